@@ -4,7 +4,7 @@ use Rattle.gs_base.specs.declared.names.PeerNo.{PeerNo}
 use Rattle.gs_base.specs.Names.{same_peer}
 use Rattle.gs_link.specs.declared.item.Slot.{Slot}
 use Rattle.gs_ends.specs.Pairs.{accepted_for}
-use Rattle.gs_ends.specs.Lists.{Listed, Source, fresh_ends, joints_in_lists, listed_joint, taken_in_lists}
+use Rattle.gs_ends.specs.Lists.{Listed, Source, fresh_ends, joints_listed, listed_joint, taken_listed}
 
 -- one pair more is made of the sources that are left
 pub one_made : (room : ℕ) (made : List Listed) (pair : Listed) (source : Source) (left : List Source) (all : List Listed) → pair ≡ fresh_ends room source → made ++ map (fresh_ends room) (source ∷ left) ≡ all → (made ++ pair ∷ []) ++ map (fresh_ends room) left ≡ all
@@ -14,7 +14,7 @@ one_made room made pair source left all fresh before = append_assoc made (pair �
 pub all_made : (room : ℕ) (made : List Listed) (left : List Source) (all : List Listed) → left ≡ [] → made ++ map (fresh_ends room) left ≡ all → made ≡ all
 all_made room made left all none is = sym (append-nil made) ∙ ap (λ l. made ++ map (fresh_ends room) l) (sym none) ∙ is
 
-joints_fresh : (room : ℕ) (sources : List Source) → joints_in_lists (map (fresh_ends room) sources) ≡ map listed_joint sources
+joints_fresh : (room : ℕ) (sources : List Source) → joints_listed (map (fresh_ends room) sources) ≡ map listed_joint sources
 joints_fresh room [] = refl
 joints_fresh room (source ∷ sources) = ap (λ l. listed_joint source ∷ l) (joints_fresh room sources)
 
@@ -26,17 +26,17 @@ accepted_fresh : (room : ℕ) (sources : List Source) (q : PeerNo) → accepted_
 accepted_fresh room [] q = refl
 accepted_fresh room (source ∷ sources) q = either_empty (same_peer source.0 q) _ (accepted_fresh room sources q)
 
-taken_fresh : (room : ℕ) (sources : List Source) (q : PeerNo) → taken_in_lists (map (fresh_ends room) sources) q ≡ []
+taken_fresh : (room : ℕ) (sources : List Source) (q : PeerNo) → taken_listed (map (fresh_ends room) sources) q ≡ []
 taken_fresh room [] q = refl
 taken_fresh room (source ∷ sources) q = either_empty (same_peer source.0 q) _ (taken_fresh room sources q)
 
 -- ---- the same of a list that is known to be fresh
 
-pub joints_as_fresh : (room : ℕ) (sources : List Source) (pairs : List Listed) → pairs ≡ map (fresh_ends room) sources → joints_in_lists pairs ≡ map listed_joint sources
-joints_as_fresh room sources pairs is = ap joints_in_lists is ∙ joints_fresh room sources
+pub joints_as_fresh : (room : ℕ) (sources : List Source) (pairs : List Listed) → pairs ≡ map (fresh_ends room) sources → joints_listed pairs ≡ map listed_joint sources
+joints_as_fresh room sources pairs is = ap joints_listed is ∙ joints_fresh room sources
 
 pub accepted_as_fresh : (room : ℕ) (sources : List Source) (pairs : List Listed) → pairs ≡ map (fresh_ends room) sources → (q : PeerNo) → accepted_for pairs q ≡ []
 accepted_as_fresh room sources pairs is q = ap (λ l. accepted_for l q) is ∙ accepted_fresh room sources q
 
-pub taken_as_fresh : (room : ℕ) (sources : List Source) (pairs : List Listed) → pairs ≡ map (fresh_ends room) sources → (q : PeerNo) → taken_in_lists pairs q ≡ []
-taken_as_fresh room sources pairs is q = ap (λ l. taken_in_lists l q) is ∙ taken_fresh room sources q
+pub taken_as_fresh : (room : ℕ) (sources : List Source) (pairs : List Listed) → pairs ≡ map (fresh_ends room) sources → (q : PeerNo) → taken_listed pairs q ≡ []
+taken_as_fresh room sources pairs is q = ap (λ l. taken_listed l q) is ∙ taken_fresh room sources q

@@ -12,11 +12,11 @@ use Rattle.gs_link.specs.Items.{slot_of}
 use Rattle.gs_link.specs.Runs.{closes}
 use Rattle.gs_ends.specs.Ends.{IsFront, TakesAll, TakesFront, comes_from}
 use Rattle.gs_ends.specs.Pairs.{Pair, joints_of}
-use Rattle.gs_ends.specs.Lists.{Listed, all_of, as_slots, joints_in_lists, taken_in_lists, taken_of}
+use Rattle.gs_ends.specs.Lists.{Listed, all_of, as_slots, joints_listed, taken_listed, taken_of}
 
-pub in_front : (lists : List Listed) (q : PeerNo) → TakesFront (joints_in_lists lists) (taken_in_lists lists) q
+pub in_front : (lists : List Listed) (q : PeerNo) → TakesFront (joints_listed lists) (taken_listed lists) q
 in_front [] q = tt
-in_front (ends ∷ lists) q = by (same_peer ends.0 q) (comes_from (joints_in_lists lists) q) (taken_in_lists lists q) (in_front lists q)
+in_front (ends ∷ lists) q = by (same_peer ends.0 q) (comes_from (joints_listed lists) q) (taken_listed lists q) (in_front lists q)
   where
     by : (b : Bool) (all : Option (List Slot)) (slots : List Slot) → IfSome all (λ whole. IsFront slots whole)
         → IfSome (if b then Some (all_of ends.2) else all) (λ whole. IsFront (if b then taken_of ends.2 else slots) whole)
@@ -34,9 +34,9 @@ whole_front (suc n) [] closed = ap (λ (l : List Slot). Close ∷ l) (sym (none_
 whole_front (suc n) (item.Piece bytes ∷ items) closed = ap (λ l. slot_of (item.Piece bytes) ∷ l) (whole_front n items closed)
 whole_front (suc n) (item.Round r ∷ items) closed = ap (λ l. slot_of (item.Round r) ∷ l) (whole_front n items closed)
 
-pub wholly_taken : (lists : List Listed) (q : PeerNo) → TakesAll (joints_in_lists lists) (taken_in_lists lists) q
+pub wholly_taken : (lists : List Listed) (q : PeerNo) → TakesAll (joints_listed lists) (taken_listed lists) q
 wholly_taken [] q closed = absurd (true≢false (sym closed))
-wholly_taken (ends ∷ lists) q closed = by (same_peer ends.0 q) (comes_from (joints_in_lists lists) q) (taken_in_lists lists q) (wholly_taken lists q) closed
+wholly_taken (ends ∷ lists) q closed = by (same_peer ends.0 q) (comes_from (joints_listed lists) q) (taken_listed lists q) (wholly_taken lists q) closed
   where
     by : (b : Bool) (all : Option (List Slot)) (slots : List Slot) → (closes slots ≡ true → all ≡ Some slots)
         → closes (if b then taken_of ends.2 else slots) ≡ true → (if b then Some (all_of ends.2) else all) ≡ Some (if b then taken_of ends.2 else slots)

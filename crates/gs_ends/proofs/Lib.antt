@@ -4,3 +4,4 @@ pub mod SlotLists
 pub mod Fresh
 pub mod Apart
 pub mod InOrder
+pub mod Rooms

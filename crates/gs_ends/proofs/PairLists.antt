@@ -15,7 +15,7 @@ of_number : (p q : PeerNo) → p.0 ≡ q.0 → p ≡ q
 of_number p q e = ap (λ (n : ℕ). let r : PeerNo = record { 0 = n } in r) e
 
 -- it is this neighbour, or another one
-same_or_not : (p q : PeerNo) → ((same_peer p q ≡ true) × (p.0 ≡ q.0)) ⊎ ((same_peer p q ≡ false) × (p.0 ≢ q.0))
+pub same_or_not : (p q : PeerNo) → ((same_peer p q ≡ true) × (p.0 ≡ q.0)) ⊎ ((same_peer p q ≡ false) × (p.0 ≢ q.0))
 same_or_not p q = eqb_tells p.0 q.0
 
 -- ---- a list in which no neighbour stands twice

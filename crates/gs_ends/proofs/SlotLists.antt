@@ -22,6 +22,10 @@ pub as_slots_close : (items : List Item) → as_slots items true ≡ as_slots it
 as_slots_close [] = refl
 as_slots_close (y ∷ items) = ap (λ l. slot_of y ∷ l) (as_slots_close items)
 
+pub length_as_slots : (items : List Item) → length (as_slots items false) ≡ length items
+length_as_slots [] = refl
+length_as_slots (y ∷ items) = ap suc (length_as_slots items)
+
 -- ---- the first of what is left is taken
 
 abbrev rest_of : List Item → List Item

@@ -1,5 +1,5 @@
 -- Ends that are lists in memory: what lies in them, and how they stand in a list of neighbours.
-use Rattle.std.specs.Prelude.{ℕ, suc, ◌+◌, Bool, true, false, nat_eq, nat_le, if◌then◌else◌, List, [], ◌∷◌, length, take, drop, Some, ◌≡◌, ◌<◌, ◌^◌, map}
+use Rattle.std.specs.Prelude.{ℕ, suc, ◌+◌, Bool, true, false, not, ◌&&◌, ◌||◌, nat_eq, nat_le, if◌then◌else◌, List, [], ◌∷◌, length, take, drop, Some, ◌≡◌, ◌<◌, ◌^◌, map}
 use Rattle.std.specs.declared.vec.Vec.{Vec}
 use Rattle.std.specs.declared.alloc.Global.{Global}
 use Rattle.gs_base.specs.declared.names.PeerNo.{PeerNo}
@@ -9,8 +9,9 @@ use Rattle.gs_link.specs.declared.item.Slot.TheVariants.{Close}
 use Rattle.std.specs.List.{All}
 use Rattle.gs_link.specs.Items.{IsSendable, slot_of}
 use Rattle.gs_link.specs.Ends.{LinkId, SendingEnd}
+use Rattle.gs_link.specs.Runs.{closes}
 use Rattle.gs_ends.specs.Ends.{Joint}
-use Rattle.gs_ends.specs.Pairs.{accepted_for, slots_with}
+use Rattle.gs_ends.specs.Pairs.{accepted_for, is_of, slots_with}
 use Rattle.gs_ends.specs.declared.ends.Ends.{Ghosts as EndsOf}
 
 -- the identity that stands for no link
@@ -64,29 +65,73 @@ senders_of sources = map (λ source. source.0) sources
 abbrev pub BringsSendable : Source → Type 0
 BringsSendable source = All IsSendable source.1.items
 
+-- Ends that are lists: each neighbour with its ends, and how puts are counted.
+pub record ListedEnds : Type 0 where
+  pub lists : List Listed
+  -- each put whose count is a multiple of this is refused, and none where it is 0
+  pub every : ℕ
+  -- how many puts were counted after the last such one
+  pub count : ℕ
+
 -- ---- what the ends are known for
 
 abbrev pub joint_in_lists : Listed → Joint
 joint_in_lists ends = record { peer = ends.0; to = ends.1.link; from = no_link; comes = Some (all_of ends.2) }
 
--- which neighbours there are, and what comes from each
-abbrev pub joints_in_lists : List Listed → List Joint
-joints_in_lists lists = map joint_in_lists lists
+-- which neighbours a list has, and what comes from each
+abbrev pub joints_listed : List Listed → List Joint
+joints_listed lists = map joint_in_lists lists
 
 -- all that was taken from a neighbour
-abbrev pub taken_in_lists : List Listed → PeerNo → List Slot
-taken_in_lists lists q = slots_with (λ ends. taken_of ends.2) lists q
+abbrev pub taken_listed : List Listed → PeerNo → List Slot
+taken_listed lists q = slots_with (λ ends. taken_of ends.2) lists q
+
+-- the same of the ends, with all that was accepted for a neighbour
+abbrev pub joints_in_lists : ListedEnds → List Joint
+joints_in_lists ends = joints_listed ends.lists
+
+abbrev pub accepted_in_lists : ListedEnds → PeerNo → List Slot
+accepted_in_lists ends q = accepted_for ends.lists q
+
+abbrev pub taken_in_lists : ListedEnds → PeerNo → List Slot
+taken_in_lists ends q = taken_listed ends.lists q
 
 -- all three, as contracts see them of any ends
-abbrev pub list_ends : EndsOf (List Listed)
-list_ends = record { joints = joints_in_lists; accepted = accepted_for; taken = taken_in_lists }
+abbrev pub list_ends : EndsOf ListedEnds
+list_ends = record { joints = joints_in_lists; accepted = accepted_in_lists; taken = taken_in_lists }
 
--- ---- which puts are refused for their count
+-- ---- which puts are refused
 
 -- one more is counted: whether it is the last of `every`, and how many stand after the last such one
 abbrev pub counted : ℕ → ℕ → Bool × ℕ
 counted every count =
     if nat_eq every 0 then (false, count) else if nat_le every (count + 1) then (true, 0) else (false, count + 1)
+
+-- how many slots the end to a neighbour accepts, and none where there is no such neighbour
+abbrev pub room_for : List Listed → PeerNo → ℕ
+room_for [] q = 0
+room_for (ends ∷ lists) q = if is_of q ends then ends.1.capacity else room_for lists q
+
+-- the end has not accepted the close, and refuses a put that is not wanted, or for which it has no room
+abbrev pub refuses : SendingEnd → Bool → Bool
+refuses end unwanted = not (closes end.accepted) && (unwanted || nat_le end.capacity (length end.accepted))
+
+-- A put to a neighbour is answered `Full`: its close is not accepted, and either the put is the last of `every`, or as
+-- many slots are accepted as there is room for.
+abbrev pub is_answered_full : ListedEnds → PeerNo → Bool
+is_answered_full ends q =
+    not (closes (accepted_in_lists ends q))
+    && ((counted ends.every ends.count).0 || nat_le (room_for ends.lists q) (length (accepted_in_lists ends q)))
+
+-- how many puts are counted after one to a neighbour: one behind its close is not
+abbrev pub count_after : ListedEnds → PeerNo → ℕ
+count_after ends q = if closes (accepted_in_lists ends q) then ends.count else (counted ends.every ends.count).1
+
+-- Room and count stay as they are, but for how many puts are counted.
+pub record KeepsRoom (old new : ListedEnds) (after : ℕ) : Type 0 where
+  pub every : new.every ≡ old.every
+  pub count : new.count ≡ after
+  pub rooms : (q : PeerNo) → room_for new.lists q ≡ room_for old.lists q
 
 -- ---- what is left of the items that come from a neighbour
 

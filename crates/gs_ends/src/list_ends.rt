@@ -1,15 +1,15 @@
-ghost use Rattle.std.specs.Prelude.{◌≡◌, IfOk, IsTrue, List, None, [], map, true};
+ghost use Rattle.std.specs.Prelude.{◌≡◌, ◌&&◌, IfOk, IsTrue, List, None, [], if◌then◌else◌, map, not, true};
 ghost use Rattle.std.specs.List.{All, IsDistinct};
 ghost use Rattle.gs_base.specs.Names.{same_peer};
 ghost use Rattle.gs_base.specs.declared.names.PeerNo.{PeerNo as PeerNoValue};
 ghost use Rattle.gs_link.specs.declared.item.Slot.{Slot};
-ghost use Rattle.gs_link.specs.Ends.{take_found_empty};
+ghost use Rattle.gs_link.specs.Items.{IsSendable};
+ghost use Rattle.gs_link.specs.Ends.{IfGot, close_found_full, send_found_full, take_found_empty};
 ghost use Rattle.gs_link.specs.Runs.{closes};
 ghost use Rattle.gs_ends.specs.Ends.{IsFinished, IsPut, IsTaken, Joint, OthersStay, comes_from, has};
 ghost use Rattle.gs_ends.specs.Ends.{TakesAll, TakesFront};
-ghost use Rattle.gs_ends.specs.Pairs.{accepted_for};
-ghost use Rattle.gs_ends.specs.Lists.{BringsSendable, as_slots, counted, fresh_ends, listed_joint, senders_of};
-ghost use Rattle.gs_ends.specs.Lists.{joints_in_lists, taken_in_lists};
+ghost use Rattle.gs_ends.specs.Lists.{BringsSendable, KeepsRoom, as_slots, counted, fresh_ends, listed_joint};
+ghost use Rattle.gs_ends.specs.Lists.{accepted_in_lists, count_after, is_answered_full, joints_in_lists, senders_of, taken_in_lists};
 
 use crate::ends::Ends;
 use crate::inbound::Inbound;
@@ -22,8 +22,8 @@ use std::marker::Model;
 
 /// Ends that are lists in memory, by neighbour: items that come from it, and those that were
 /// accepted for it. Contracts see them as the list of the neighbours, each with an end that sends to
-/// it, the items that were given for it and how many slots were taken of those. They belong to no
-/// link, and can refuse every n-th put.
+/// it, the items that were given for it and how many slots were taken of those; and with how puts are
+/// counted. They belong to no link, and can refuse every n-th put.
 #[derive(Drop)]
 pub struct ListEnds {
     list: Vec<(PeerNo, Outbound, Inbound)>,
@@ -32,12 +32,11 @@ pub struct ListEnds {
 }
 
 impl Model for ListEnds {
-    ghost use Rattle.std.specs.Prelude.{List};
-    ghost use Rattle.gs_ends.specs.Lists.{Listed};
+    ghost use Rattle.gs_ends.specs.Lists.{ListedEnds};
 
-    ghost Value = { List Listed };
+    ghost Value = { ListedEnds };
 
-    ghost view = { λ s. s.list.items };
+    ghost view = { λ s. record { lists = s.list.items; every = s.every; count = s.count } };
 }
 
 impl ListEnds {
@@ -60,9 +59,10 @@ impl ListEnds {
     ) -> Result<ListEnds, AllocError>
         requires apart { IsDistinct same_peer (senders_of inbound.items) }
         requires size { All BringsSendable inbound.items }
-        ensures ends { IfOk result (λ ends. ends ≡ map (fresh_ends room) inbound.items) }
+        ensures ends { IfOk result (λ ends.
+            ends ≡ record { lists = map (fresh_ends room) inbound.items; every = every; count = 0 }) }
         ensures joints { IfOk result (λ ends. joints_in_lists ends ≡ map listed_joint inbound.items) }
-        ensures accepted { IfOk result (λ ends. (q : PeerNoValue) → accepted_for ends q ≡ []) }
+        ensures accepted { IfOk result (λ ends. (q : PeerNoValue) → accepted_in_lists ends q ≡ []) }
         ensures taken { IfOk result (λ ends. (q : PeerNoValue) → taken_in_lists ends q ≡ []) }
     {
         let mut list = Vec::new(alloc);
@@ -80,7 +80,7 @@ impl ListEnds {
     /// The items that were accepted for a neighbour, in order, without the close.
     pub fn sent(&self, to: PeerNo) -> &[Item]
         requires known { has (joints_in_lists self.now) to ≡ true }
-        ensures { as_slots result.now (closes (accepted_for self.now to)) ≡ accepted_for self.now to }
+        ensures { as_slots result.now (closes (accepted_in_lists self.now to)) ≡ accepted_in_lists self.now to }
     {
         let place = position_of(self.list.as_slice(), to);
         let pair = &self.list[place];
@@ -112,28 +112,71 @@ fn is_counted_out(every: u64, count: &mut u64) -> bool
     false
 }
 
+/// Whether a put is refused for its count. One to an end that has accepted the close is not counted.
+fn is_refused(every: u64, count: &mut u64, closed: bool) -> bool
+    ensures answer { result ≡ (not closed && (counted every count.old).0) }
+    ensures count { count.new ≡ if closed then count.old else (counted every count.old).1 }
+{
+    if closed {
+        return false;
+    }
+    is_counted_out(every, count)
+}
+
 impl Ends for ListEnds {
     ghost joints = { λ s. joints_in_lists s };
 
-    ghost accepted = { λ s q. accepted_for s q };
+    ghost accepted = { λ s q. accepted_in_lists s q };
 
     ghost taken = { λ s q. taken_in_lists s q };
 
-    fn put(&mut self, to: PeerNo, item: Item) -> Result<(), SendRefused> {
+    /// Puts the item at the back of what goes to a neighbour. It answers `Full` where its count refuses it or there is no
+    /// room, and nowhere else.
+    fn put(&mut self, to: PeerNo, item: Item) -> Result<(), SendRefused>
+        requires known { has (joints_in_lists self.old) to ≡ true }
+        requires size { IsSendable item }
+        ensures joints { joints_in_lists self.new ≡ joints_in_lists self.old }
+        ensures accepted { IsPut (accepted_in_lists self.old to) (accepted_in_lists self.new to) item result }
+        ensures others { OthersStay to (accepted_in_lists self.old) (accepted_in_lists self.new) }
+        ensures taken { (q : PeerNoValue) → taken_in_lists self.new q ≡ taken_in_lists self.old q }
+        ensures full { send_found_full result ≡ is_answered_full self.old to }
+        ensures room { KeepsRoom self.old self.new (count_after self.old to) }
+    {
         let place = position_of(self.list.as_slice(), to);
         let pair = &mut self.list[place];
-        let refused = !pair.1.is_closed() && is_counted_out(self.every, &mut self.count);
+        let closed = pair.1.is_closed();
+        let refused = is_refused(self.every, &mut self.count, closed);
         pair.1.put(item, refused)
     }
 
-    fn finish(&mut self, to: PeerNo) -> Result<(), CloseRefused> {
+    /// Puts the close at the back of what goes to a neighbour. It answers `Full` where an item would be answered so.
+    fn finish(&mut self, to: PeerNo) -> Result<(), CloseRefused>
+        requires known { has (joints_in_lists self.old) to ≡ true }
+        ensures joints { joints_in_lists self.new ≡ joints_in_lists self.old }
+        ensures accepted { IsFinished (accepted_in_lists self.old to) (accepted_in_lists self.new to) result }
+        ensures others { OthersStay to (accepted_in_lists self.old) (accepted_in_lists self.new) }
+        ensures taken { (q : PeerNoValue) → taken_in_lists self.new q ≡ taken_in_lists self.old q }
+        ensures full { close_found_full result ≡ is_answered_full self.old to }
+        ensures room { KeepsRoom self.old self.new (count_after self.old to) }
+    {
         let place = position_of(self.list.as_slice(), to);
         let pair = &mut self.list[place];
-        let refused = !pair.1.is_closed() && is_counted_out(self.every, &mut self.count);
+        let closed = pair.1.is_closed();
+        let refused = is_refused(self.every, &mut self.count, closed);
         pair.1.finish(refused)
     }
 
-    fn take(&mut self, from: PeerNo) -> Taken {
+    /// Takes what came first from a neighbour, of what was not taken. It leaves room and count as they are.
+    fn take(&mut self, from: PeerNo) -> Taken
+        requires known { has (joints_in_lists self.old) from ≡ true }
+        ensures joints { joints_in_lists self.new ≡ joints_in_lists self.old }
+        ensures taken { IsTaken (taken_in_lists self.old from) (taken_in_lists self.new from) result }
+        ensures others { OthersStay from (taken_in_lists self.old) (taken_in_lists self.new) }
+        ensures accepted { (q : PeerNoValue) → accepted_in_lists self.new q ≡ accepted_in_lists self.old q }
+        ensures size { IfGot result IsSendable }
+        ensures settled { IsTrue (take_found_empty result) → comes_from (joints_in_lists self.old) from ≡ None }
+        ensures room { KeepsRoom self.old self.new self.old.count }
+    {
         let place = position_of(self.list.as_slice(), from);
         let pair = &mut self.list[place];
         pair.2.take()

@@ -2,7 +2,8 @@
 ghost use Rattle.std.specs.Prelude.{◌≡◌, [], false, IfOk};
 ghost use Rattle.gs_link.specs.Runs.{closes};
 ghost use Rattle.gs_ends.specs.Ends.{IsFinished, IsPut};
-ghost use Rattle.gs_ends.specs.Lists.{as_slots, listed_sender};
+ghost use Rattle.gs_link.specs.Ends.{close_found_full, send_found_full};
+ghost use Rattle.gs_ends.specs.Lists.{as_slots, listed_sender, refuses};
 
 use gs_link::{CloseRefused, Item, SendRefused};
 use std::alloc::{AllocError, Global};
@@ -43,11 +44,12 @@ impl Outbound {
     }
 
     /// Puts the item at the back, where there is room and `refused` is not set.
-    #[tactic(auto, using(crate::proofs::SlotLists::closes_as_slots, crate::proofs::SlotLists::as_slots_snoc))]
+    #[tactic(auto, using(crate::proofs::SlotLists::closes_as_slots, crate::proofs::SlotLists::as_slots_snoc, crate::proofs::SlotLists::length_as_slots))]
     pub(crate) fn put(&mut self, item: Item, refused: bool) -> Result<(), SendRefused>
         ensures link { self.new.link ≡ self.old.link }
         ensures capacity { self.new.capacity ≡ self.old.capacity }
         ensures put { IsPut self.old.accepted self.new.accepted item result }
+        ensures full { send_found_full result ≡ refuses self.old refused }
     {
         if self.closed {
             return Err(SendRefused::Closed(item));
@@ -62,11 +64,12 @@ impl Outbound {
     }
 
     /// Puts the close at the back, where there is room and `refused` is not set.
-    #[tactic(auto, using(crate::proofs::SlotLists::closes_as_slots, crate::proofs::SlotLists::as_slots_close))]
+    #[tactic(auto, using(crate::proofs::SlotLists::closes_as_slots, crate::proofs::SlotLists::as_slots_close, crate::proofs::SlotLists::length_as_slots))]
     pub(crate) fn finish(&mut self, refused: bool) -> Result<(), CloseRefused>
         ensures link { self.new.link ≡ self.old.link }
         ensures capacity { self.new.capacity ≡ self.old.capacity }
         ensures finished { IsFinished self.old.accepted self.new.accepted result }
+        ensures full { close_found_full result ≡ refuses self.old refused }
     {
         if self.closed {
             return Err(CloseRefused::Closed);

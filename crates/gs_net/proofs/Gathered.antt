@@ -14,7 +14,8 @@ use Rattle.gs_seats.specs.ListsByPeer.{list_at}
 use Rattle.gs_peer.specs.declared.finished_task.PeerFault.{PeerFault}
 use Rattle.gs_peer.specs.declared.task.PeerTask.{PeerTask}
 use Rattle.gs_peer.specs.Life.{IsLife}
-use Rattle.gs_peer.specs.Task.{CanPoll, Gives}
+use Rattle.gs_workers.specs.Flags.{FlagId}
+use Rattle.gs_peer.specs.Task.{CanPoll, Gives, flag_of}
 use Rattle.gs_net.specs.declared.lives.Lives.{Lives}
 use Rattle.gs_net.specs.Given.{Given, GivenLife, ends_at}
 use Rattle.gs_net.specs.Lives.{IsTakenApart}
@@ -42,8 +43,8 @@ abbrev joints_told : (x : Option (Seat × SeededState × List Joint)) → List J
 joints_told None = []
 joints_told (Some x) = x.2
 
-module _ {G : Type 0} (plan : Plan) (ends : List (Vec Pair Global)) where
-  one_gave : (p : PeerNo) (task : PeerTask G (List Pair)) (f : Given) → IsTaskFor pair_ends plan ends p task → Gives pair_ends task (Ok f) → Gave plan ends p f
+module _ {G : Type 0} (plan : Plan) (flag : FlagId) (ends : List (Vec Pair Global)) where
+  one_gave : (p : PeerNo) (task : PeerTask G (List Pair)) (f : Given) → IsTaskFor pair_ends plan flag ends p task → Gives pair_ends task (Ok f) → Gave plan ends p f
   one_gave p task f is (seat, first, given, life) =
       let same : told seat first (joints_of f.ends) ≡ told (seat_in plan p) (first_words plan p) (joints_of (list_at ends p.0)) = sym given ∙ is.is in
       record {
@@ -52,7 +53,7 @@ module _ {G : Type 0} (plan : Plan) (ends : List (Vec Pair Global)) where
         joints = ap joints_told same;
       }
 
-  all_gave : (ps : List PeerNo) (tasks : List (PeerTask G (List Pair))) (givens : List Given) → AllZip (IsTaskFor pair_ends plan ends) ps tasks → AllZip (Gives pair_ends) tasks (map Ok givens) → AllZip (Gave plan ends) ps givens
+  all_gave : (ps : List PeerNo) (tasks : List (PeerTask G (List Pair))) (givens : List Given) → AllZip (IsTaskFor pair_ends plan flag ends) ps tasks → AllZip (Gives pair_ends) tasks (map Ok givens) → AllZip (Gave plan ends) ps givens
   all_gave [] [] [] is gives = tt
   all_gave (p ∷ ps) (task ∷ tasks) (f ∷ givens) is gives = (one_gave p task f is.0 gives.0, all_gave ps tasks givens is.1 gives.1)
   all_gave [] [] (f ∷ givens) is gives = absurd gives
@@ -60,18 +61,28 @@ module _ {G : Type 0} (plan : Plan) (ends : List (Vec Pair Global)) where
   all_gave (p ∷ ps) [] givens is gives = absurd is
   all_gave (p ∷ ps) (task ∷ tasks) [] is gives = absurd gives
 
-  pub gave : (tasks : List (PeerTask G (List Pair))) (results : List (Result Given PeerFault)) (givens : List Given) → AllZip (IsTaskFor pair_ends plan ends) (numbers plan) tasks → AllZip (Gives pair_ends) tasks results → map Ok givens ≡ results → AllZip (Gave plan ends) (numbers plan) givens
+  pub gave : (tasks : List (PeerTask G (List Pair))) (results : List (Result Given PeerFault)) (givens : List Given) → AllZip (IsTaskFor pair_ends plan flag ends) (numbers plan) tasks → AllZip (Gives pair_ends) tasks results → map Ok givens ≡ results → AllZip (Gave plan ends) (numbers plan) givens
   gave tasks results givens is gives are = all_gave (numbers plan) tasks givens is (subst (λ (rs : List (Result Given PeerFault)). AllZip (Gives pair_ends) tasks rs) (sym are) gives)
 
   -- the tasks may be polled
-  can_each : (ps : List PeerNo) (tasks : List (PeerTask G (List Pair))) → AllZip (IsTaskFor pair_ends plan ends) ps tasks → AllByRecursion (CanPoll pair_ends) tasks
+  can_each : (ps : List PeerNo) (tasks : List (PeerTask G (List Pair))) → AllZip (IsTaskFor pair_ends plan flag ends) ps tasks → AllByRecursion (CanPoll pair_ends) tasks
   can_each [] [] is = tt
   can_each (p ∷ ps) (task ∷ tasks) is = (is.0.can, can_each ps tasks is.1)
   can_each [] (task ∷ tasks) is = absurd is
   can_each (p ∷ ps) [] is = absurd is
 
-  pub can_all : (tasks : List (PeerTask G (List Pair))) → AllZip (IsTaskFor pair_ends plan ends) (numbers plan) tasks → AllByRecursion (CanPoll pair_ends) tasks
+  pub can_all : (tasks : List (PeerTask G (List Pair))) → AllZip (IsTaskFor pair_ends plan flag ends) (numbers plan) tasks → AllByRecursion (CanPoll pair_ends) tasks
   can_all tasks is = can_each (numbers plan) tasks is
+
+  -- they are stopped by one flag
+  stops_each : (ps : List PeerNo) (tasks : List (PeerTask G (List Pair))) → AllZip (IsTaskFor pair_ends plan flag ends) ps tasks → AllByRecursion (λ task. flag_of task ≡ flag) tasks
+  stops_each [] [] is = tt
+  stops_each (p ∷ ps) (task ∷ tasks) is = (is.0.stops, stops_each ps tasks is.1)
+  stops_each [] (task ∷ tasks) is = absurd is
+  stops_each (p ∷ ps) [] is = absurd is
+
+  pub stops_all : (tasks : List (PeerTask G (List Pair))) → AllZip (IsTaskFor pair_ends plan flag ends) (numbers plan) tasks → AllByRecursion (λ task. flag_of task ≡ flag) tasks
+  stops_all tasks is = stops_each (numbers plan) tasks is
 
 -- ---- the lives
 

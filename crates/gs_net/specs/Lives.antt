@@ -2,7 +2,7 @@
 use Rattle.std.specs.Prelude.{◌≡◌, Bool, true, false, List, length, map, position, Option, option_map, Result, Ok, Err}
 use Rattle.gs_base.specs.declared.names.PeerNo.{PeerNo}
 use Rattle.gs_peer.specs.declared.finished_task.PeerFault.{PeerFault}
-use Rattle.gs_peer.specs.declared.finished_task.PeerFault.TheVariants.{NoMemory, Stopped}
+use Rattle.gs_peer.specs.declared.finished_task.PeerFault.TheVariants.{NoMemory, Stopped, Over}
 use Rattle.std.specs.List.{range_with_len}
 use Rattle.gs_net.specs.declared.lives.Lives.{Lives}
 use Rattle.gs_net.specs.Given.{Given, bare}
@@ -18,7 +18,8 @@ pub record IsTakenApart (givens : List Given) (lives : Lives) : Type 0 where
 abbrev pub wants_memory : {A : Type 0} → Result A PeerFault → Bool
 wants_memory (Ok life) = false
 wants_memory (Err (NoMemory raised)) = true
-wants_memory (Err Stopped) = false
+wants_memory (Err (Stopped found)) = false
+wants_memory (Err Over) = false
 
 -- the lowest peer whose task did
 abbrev pub first_without_memory : {A : Type 0} → List (Result A PeerFault) → Option PeerNo

@@ -12,7 +12,8 @@ use Rattle.gs_ends.specs.declared.ends.Ends.{Ghosts as EndsOf}
 use Rattle.gs_ends.specs.Pairs.{Pair, joints_of, peers_in}
 use Rattle.gs_peer.specs.declared.assignment.Assignment.{Assignment}
 use Rattle.gs_peer.specs.declared.task.PeerTask.{PeerTask}
-use Rattle.gs_peer.specs.Task.{CanPoll, given_of}
+use Rattle.gs_workers.specs.Flags.{FlagId}
+use Rattle.gs_peer.specs.Task.{CanPoll, flag_of, given_of}
 use Rattle.gs_seats.specs.ListsByPeer.{list_at}
 use Rattle.gs_net.specs.Dials.{HasCapacity, IsFresh}
 use Rattle.gs_seats.specs.Rounds.{first_words, lines_in, neighbours, peer_no, seat_in}
@@ -47,11 +48,12 @@ pub record IsAssignedIn (plan : Plan) (p : PeerNo) (a : Assignment) : Type 0 whe
   pub worker : a.worker ≡ p.0 % plan.workers
 
 module _ {G S : Type 0} (seen : EndsOf S) where
-  -- A task of this peer, by its words, with ends of these links.
-  pub record IsTask (plan : Plan) (p : PeerNo) (of : List Joint) (task : PeerTask G S) : Type 0 where
+  -- A task of this peer, by its words, with ends of these links, which this flag stops.
+  pub record IsTask (plan : Plan) (p : PeerNo) (flag : FlagId) (of : List Joint) (task : PeerTask G S) : Type 0 where
     pub can : CanPoll seen task
     pub is : given_of seen.joints task ≡ Some (seat_in plan p, first_words plan p, of)
+    pub stops : flag_of task ≡ flag
 
   -- a task of this peer with the ends that stand at its number
-  abbrev pub IsTaskFor : Plan → List (Vec Pair Global) → PeerNo → PeerTask G S → Type 0
-  IsTaskFor plan ends p task = IsTask plan p (joints_of (list_at ends p.0)) task
+  abbrev pub IsTaskFor : Plan → FlagId → List (Vec Pair Global) → PeerNo → PeerTask G S → Type 0
+  IsTaskFor plan flag ends p task = IsTask plan p flag (joints_of (list_at ends p.0)) task

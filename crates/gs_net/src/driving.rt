@@ -1,8 +1,9 @@
 //! Peers' tasks, driven by workers.
 ghost use Rattle.std.specs.Prelude.{◌≡◌, ◌≤◌, IfErr, IfOk};
-ghost use Rattle.std.specs.List.{All, AllZip};
-ghost use Rattle.gs_workers.specs.declared.fault.WorkerFault.{WorkerFault as WorkerFaultValue};
-ghost use Rattle.gs_peer.specs.Task.{CanPoll, Gives};
+ghost use Rattle.std.specs.Arc.{arc_value};
+ghost use Rattle.std.specs.List.{All, AllByRecursion, AllZip};
+ghost use Rattle.gs_workers.specs.Faults.{flag_in};
+ghost use Rattle.gs_peer.specs.Task.{CanPoll, Gives, flag_of};
 ghost use Rattle.gs_net.specs.Faults.{of_workers};
 
 use gs_ends::Ends;
@@ -18,9 +19,11 @@ use std::thread::Threads;
 /// order of the tasks, and the number of threads. The task at place i runs on worker i mod `workers`.
 /// The workers have ended when it returns.
 ///
+/// One flag stops the tasks and is set by the workers.
+///
 /// # Errors
-/// `NoMemory`, of no peer; and `NoThread` where a thread could not be started or could not wait. The
-/// flag is set before the workers that were started are joined, so that tasks which it stops end.
+/// `NoMemory`; and `NoThread` where a thread could not be started or could not wait. The flag is set
+/// before the workers that were started are joined, so that the tasks end.
 pub fn run_tasks<
     G: Gate + Send,
     S: Ends + Send,
@@ -30,21 +33,19 @@ pub fn run_tasks<
     workers: usize,
     stop: &Arc<StopFlag>,
     tasks: Vec<PeerTask<G, S>>,
-) -> Result<Ran<Result<FinishedTask<S>, PeerFault>>, NetFault>
+) -> Result<Ran<Result<FinishedTask<S>, PeerFault>>, WorkerFault>
     requires workers { 1 ≤ workers }
     requires ready { All (CanPoll S.Ends) tasks.items }
+    requires flags { AllByRecursion (λ task. flag_of task ≡ arc_value stop.now) tasks.items }
     ensures given { IfOk result (λ ran. AllZip (Gives S.Ends) tasks.items ran.outputs.items) }
     ensures threads { IfOk result (λ ran. ran.threads ≡ workers) }
-    ensures fault { IfErr result (λ fault. (why : WorkerFaultValue) × (fault ≡ of_workers why)) }
+    ensures fault { IfErr result (λ fault. flag_in fault ≡ arc_value stop.now) }
 {
-    match run_all(rt, workers, stop, tasks) {
-        Ok(ran) => Ok(ran),
-        Err(fault) => Err(fault_of(fault)),
-    }
+    run_all(rt, workers, stop, tasks)
 }
 
 /// What a fault of the workers is to a run.
-fn fault_of(fault: WorkerFault) -> NetFault
+pub fn fault_of(fault: WorkerFault) -> NetFault
     ensures { result ≡ of_workers fault }
 {
     match fault {

@@ -96,7 +96,8 @@ fn wants_memory<R: Wait + Drop>(
 {
     match given {
         Err(PeerFault::NoMemory(_)) => true,
-        Err(PeerFault::Stopped) => false,
+        Err(PeerFault::Stopped(_)) => false,
+        Err(PeerFault::Over) => false,
         Ok(_) => false,
     }
 }

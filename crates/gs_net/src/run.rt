@@ -1,11 +1,14 @@
-ghost use Rattle.std.specs.Prelude.{◌≡◌, ◌≤◌, ◌*◌, IfOk, length, map};
-ghost use Rattle.std.specs.List.{All, AllZip};
+ghost use Rattle.std.specs.Prelude.{◌≡◌, ◌≤◌, ◌*◌, IfErr, IfOk, length, map};
+ghost use Rattle.std.specs.Arc.{arc_value};
+ghost use Rattle.std.specs.List.{All, AllByRecursion, AllZip};
+ghost use Rattle.gs_workers.specs.declared.fault.WorkerFault.{WorkerFault as WorkerFaultValue};
 ghost use Rattle.gs_plan.specs.Plans.{IsInRange};
-ghost use Rattle.gs_peer.specs.Task.{CanPoll, Gives};
+ghost use Rattle.gs_net.specs.Faults.{of_workers};
+ghost use Rattle.gs_peer.specs.Task.{CanPoll, Gives, flag_of};
 ghost use Rattle.gs_seats.specs.Reports.{IsReport};
 
 use crate::dials::{settle_all, wire_all};
-use crate::driving::run_tasks;
+use crate::driving::{fault_of, run_tasks};
 use crate::lives::lives_of;
 use crate::tasks::{Builder, payloads_of_workers};
 use gs_ends::Ends;
@@ -74,7 +77,10 @@ where
     })
 }
 
-/// Drives the tasks on as many threads as the plan says.
+/// Drives the tasks on as many threads as the plan says. The flag is that of each task.
+///
+/// # Errors
+/// What the workers' fault is to a run.
 fn drive<G, S, R>(
     rt: &R,
     plan: &Plan,
@@ -87,13 +93,18 @@ where
     R: Threads + Wait + RandomSource + AllocGlobal + Sync,
     requires workers { 1 ≤ plan.now.workers }
     requires ready { All (CanPoll S.Ends) tasks.items }
+    requires flags { AllByRecursion (λ task. flag_of task ≡ arc_value stop.now) tasks.items }
     ensures given { IfOk result (λ ran. AllZip (Gives S.Ends) tasks.items ran.outputs.items) }
     ensures threads { IfOk result (λ ran. ran.threads ≡ plan.now.workers) }
+    ensures fault { IfErr result (λ fault. (why : WorkerFaultValue) × (fault ≡ of_workers why)) }
 {
-    run_tasks(rt, plan.workers as usize, stop, tasks)
+    match run_tasks(rt, plan.workers as usize, stop, tasks) {
+        Ok(ran) => Ok(ran),
+        Err(fault) => Err(fault_of(fault)),
+    }
 }
 
 fn flag(alloc: Global) -> Result<Arc<StopFlag>, AllocError> {
-    let stop = Arc::new(alloc, StopFlag::new())?;
+    let stop = Arc::new(alloc, StopFlag::new(alloc)?)?;
     Ok(stop)
 }

@@ -1,4 +1,5 @@
 ghost use Rattle.std.specs.Prelude.{◌≡◌, true, IfErr, IfOk, OnOk, [], Some, length};
+ghost use Rattle.std.specs.Arc.{arc_value};
 ghost use Rattle.std.specs.List.{AllByRecursion, AllZip, IsDistinct};
 ghost use Rattle.gs_base.specs.Names.{peers_of, same_peer};
 ghost use Rattle.gs_plan.specs.Plans.{IsInRange};
@@ -43,7 +44,7 @@ impl<'p, G: Gate + Copy, R: Wait + Drop + Copy> Builder<'p, G, R> {
         requires range { IsInRange self.now.plan.now }
         requires parts { AreParts self.now.plan.now lines.items ends.items }
         ensures { IfOk result (λ tasks. AllZip
-            (IsTaskFor ⟦<LinkEnds<R> as Ends>⟧ self.now.plan.now ends.items)
+            (IsTaskFor ⟦<LinkEnds<R> as Ends>⟧ self.now.plan.now (arc_value self.now.stop.now) ends.items)
             (numbers self.now.plan.now) tasks.items) }
     {
         let mut tasks = Vec::new(self.alloc);
@@ -64,7 +65,7 @@ impl<'p, G: Gate + Copy, R: Wait + Drop + Copy> Builder<'p, G, R> {
         requires range { IsInRange self.now.plan.now }
         requires parts { AreParts self.now.plan.now lines.items ends.items }
         requires none { tasks.old.items ≡ [] }
-        ensures built { AllZip (IsTaskFor ⟦<LinkEnds<R> as Ends>⟧ self.now.plan.now ends.items)
+        ensures built { AllZip (IsTaskFor ⟦<LinkEnds<R> as Ends>⟧ self.now.plan.now (arc_value self.now.stop.now) ends.items)
             (first_numbers (length tasks.new.items)) tasks.new.items }
         ensures all { OnOk result (length tasks.new.items ≡ length self.now.plan.now.peers) }
         ensures fault { IfErr result (λ fault.
@@ -106,7 +107,7 @@ impl<'p, G: Gate + Copy, R: Wait + Drop + Copy> Builder<'p, G, R> {
         requires own { lines.items ≡ lines_in self.now.plan.now number }
         requires usable { AreUsable self.now.plan.now number ends.items }
         ensures { IfOk result (IsTask ⟦<LinkEnds<R> as Ends>⟧
-            self.now.plan.now number (joints_of ends.items)) }
+            self.now.plan.now number (arc_value self.now.stop.now) (joints_of ends.items)) }
     {
         let words = first_words(self.alloc, self.plan, number)?;
         let stop = Arc::try_clone(self.stop)?;

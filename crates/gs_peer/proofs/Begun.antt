@@ -1,5 +1,5 @@
 -- Phases that have begun have begun when more is said.
-use Rattle.std.proofs.Common.{suc, ◌≡◌, List}
+use Rattle.std.proofs.Common.{suc, List}
 use Rattle.std.specs.List.{AllByRecursion}
 use Rattle.gs_base.specs.declared.names.PeerNo.{PeerNo}
 use Rattle.gs_base.specs.Tokens.{Said}

@@ -21,9 +21,8 @@ use Rattle.gs_rules.specs.Hearing.{Spell, closes}
 use Rattle.gs_rules.specs.Rounds.{Seat, Phase, Playing, Closing, AfterRounds, ComesAt, Does, KeepsRounds, Stop, Todo, agenda, hears, moment_of}
 use Rattle.gs_rules.proofs.Gathered.{gathered_down}
 use Rattle.gs_rules.proofs.Handled.{does_handle, said_is_handled}
-use Rattle.gs_rules.proofs.Legality.{exact_is_free, legal_then, legal_weakly}
+use Rattle.gs_rules.proofs.Legality.{exact_is_free, legal_weakly}
 use Rattle.gs_router.specs.Router.{RouterView}
-use Rattle.gs_router.specs.State.{Appends}
 use Rattle.gs_peer.specs.declared.outboxes.Outboxes.{Outboxes}
 use Rattle.gs_peer.specs.Inboxes.{InboxView, all_heard, in_next_phase, peers_of}
 use Rattle.gs_peer.specs.Kept.{BoxKept, InboxKept, Kept}

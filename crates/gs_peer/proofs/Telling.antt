@@ -1,8 +1,8 @@
 -- What is to go out after entries, as the outboxes are told it.
-use Rattle.std.proofs.Common.{◌≡◌, ◌-◌, ℕ, Bool, true, false, if◌then◌else◌, List, [], ◌∷◌, ◌++◌, length, map, take, drop, reverse, Option, refl, sym, ap, ap₂, subst, ◌∙◌, append_assoc}
+use Rattle.std.proofs.Common.{◌≡◌, ℕ, Bool, true, false, if◌then◌else◌, List, [], ◌∷◌, ◌++◌, length, map, drop, reverse, Option, refl, sym, ap, ap₂, subst, ◌∙◌, append_assoc}
 use Rattle.std.specs.List.{AllByRecursion}
 use Rattle.std.specs.Prelude.{option_to_list}
-use Rattle.std.proofs.lemmas.List.{reverse-append, reverse-reverse, length-reverse, drop_at}
+use Rattle.std.proofs.lemmas.List.{reverse-reverse}
 use Rattle.gs_base.specs.declared.names.PeerNo.{PeerNo}
 use Rattle.gs_base.specs.declared.rpc.Rpc.{Rpc}
 use Rattle.gs_base.specs.Codecs.{Codec}
@@ -11,11 +11,8 @@ use Rattle.gs_wire.specs.Codec.{codec}
 use Rattle.gs_rules.specs.declared.trace.Entry.{Entry}
 use Rattle.gs_rules.specs.declared.event.Event.{Event}
 use Rattle.gs_rules.specs.Modes.{sent_to}
-use Rattle.gs_rules.specs.Peers.{Peer}
-use Rattle.gs_rules.specs.Tables.{Entries, cuts_off, up, up_after}
-use Rattle.gs_rules.specs.Legal.{Legal}
-use Rattle.gs_rules.specs.Saying.{AllFit, Outgoing, behind_entry, behind_event, cut_out, frames_of, gather, is_cut, outgoing, raw_to, saying, sending, sending_all, sign}
-use Rattle.gs_rules.proofs.Fitting.{legal_part_fits}
+use Rattle.gs_rules.specs.Tables.{Entries, up, up_after}
+use Rattle.gs_rules.specs.Saying.{Outgoing, behind_entry, behind_event, cut_out, frames_of, gather, is_cut, outgoing, raw_to, saying, sending, sending_all, sign}
 use Rattle.gs_player.proofs.Since.{next_first, since}
 use Rattle.gs_peer.specs.declared.outboxes.Outboxes.{Outboxes}
 use Rattle.gs_peer.specs.Kept.{BoxKept}

@@ -1,8 +1,8 @@
 -- What a task keeps, wherever it may be suspended.
-use Rattle.std.specs.Prelude.{◌≡◌, ◌≤◌, suc, Bool, true, false, if◌then◌else◌, List, [], ◌∷◌, ◌++◌, Some}
+use Rattle.std.specs.Prelude.{◌≡◌, ◌≤◌, suc, Bool, true, false, List, [], ◌++◌, Some}
 use Rattle.std.specs.List.{AllByRecursion}
 use Rattle.gs_base.specs.declared.names.PeerNo.{PeerNo}
-use Rattle.gs_base.specs.Tokens.{Close, Said, bytes_of}
+use Rattle.gs_base.specs.Tokens.{Said, bytes_of}
 use Rattle.gs_params.specs.Picks.{IsAscending}
 use Rattle.gs_params.specs.Seeding.{SeededState, seeded_after, seeded_word}
 use Rattle.gs_wire.specs.Messages.{longest_body}

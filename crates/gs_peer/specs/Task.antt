@@ -1,5 +1,6 @@
 -- What is known of a peer's task, wherever it may be suspended, and of what it gives.
-use Rattle.std.specs.Prelude.{◌≡◌, true, false, ◌++◌, ℕ, List, [], Option, Some, None, Result, Ok, Err, IfOk, MatchOption, ⊤}
+use Rattle.std.specs.Prelude.{◌≡◌, true, false, ◌++◌, ℕ, List, [], Option, Some, None, Result, Ok, Err, MatchOption, MatchResult, ⊤}
+use Rattle.std.specs.Arc.{arc_value}
 use Rattle.std.specs.List.{AllByRecursion}
 use Rattle.futures.specs.declared.task.Poll.{Poll}
 use Rattle.futures.specs.declared.task.Poll.TheVariants.{Ready, Pending}
@@ -14,14 +15,17 @@ use Rattle.gs_rules.specs.Saying.{gathered, handled, out}
 use Rattle.gs_rules.specs.Hearing.{Spell, bytes_before}
 use Rattle.gs_rules.specs.Rounds.{Seat, Todo, KeepsSoFar}
 use Rattle.gs_router.specs.Router.{RouterView}
+use Rattle.gs_workers.specs.Flags.{FlagId}
 use Rattle.gs_ends.specs.Ends.{GrewBy, Joint}
 use Rattle.gs_ends.specs.declared.ends.Ends.{Ghosts as EndsOf}
 use Rattle.gs_peer.specs.declared.assignment.Assignment.{Assignment}
 use Rattle.gs_peer.specs.declared.finished_task.FinishedTask.{FinishedTask}
 use Rattle.gs_peer.specs.declared.finished_task.PeerFault.{PeerFault}
+use Rattle.gs_peer.specs.declared.finished_task.PeerFault.TheVariants.{Over}
 use Rattle.gs_peer.specs.declared.running.Running.{Running}
 use Rattle.gs_peer.specs.declared.task.PeerTask.{PeerTask}
 use Rattle.gs_player.specs.Ended.{whole}
+use Rattle.gs_peer.specs.Faults.{IsOfFlag}
 use Rattle.gs_peer.specs.Inboxes.{InboxView, peers_of}
 use Rattle.gs_peer.specs.Life.{IsLife, words_of}
 use Rattle.gs_peer.specs.Moves.{is_over}
@@ -35,6 +39,10 @@ use Rattle.gs_peer.specs.Stepping.{Polls}
 -- what no poll of a task changes: its seat, the words of its choices at first, and which links its ends belong to
 abbrev pub given_of : {G S : Type 0} → (S → List Joint) → PeerTask G S → Option (Seat × SeededState × List Joint)
 given_of joints task = elim task.running [ None ↦ None | Some t ↦ Some (seat_of t, t.first.value, joints t.ends) ]
+
+-- the flag that stops it
+abbrev pub flag_of : {G S : Type 0} → PeerTask G S → FlagId
+flag_of task = arc_value task.stop
 
 -- the task is of a peer that is given this
 abbrev pub IsTaskOf : {G S : Type 0} → (S → List Joint)
@@ -85,6 +93,10 @@ module _ {G S : Type 0} (seen : EndsOf S) where
 
 -- ---- a poll
 
+-- The fault of a task that goes on is evidence that its flag was set. That of a task which has given its result says so.
+abbrev pub IsFaultOf : {G S : Type 0} → PeerTask G S → PeerFault → Type 0
+IsFaultOf task fault = MatchOption task.running (fault ≡ Over) (λ t. IsOfFlag (flag_of task) fault)
+
 module _ {G S : Type 0} (seen : EndsOf S) where
   -- it keeps what a running task keeps, or it has given its result
   abbrev pub CanPoll : PeerTask G S → Type 0
@@ -94,12 +106,13 @@ module _ {G S : Type 0} (seen : EndsOf S) where
   abbrev pub IsSuspended : PeerTask G S → Type 0
   IsSuspended task = MatchOption task.running ⊥ (λ t. SoFar seen t)
 
-  -- a whole life at the task's seat, by its words and with its ends; or a fault
+  -- a whole life at the task's seat, by its words and with its ends; or a fault of the task
   abbrev pub Gives : PeerTask G S → Result (FinishedTask S) PeerFault → Type 0
-  Gives task result = IfOk result (λ f.
-      (seat : Seat) × (first : SeededState)
+  Gives task result = MatchResult result
+      (λ f. (seat : Seat) × (first : SeededState)
       × (given_of seen.joints task ≡ Some (seat, first, seen.joints f.ends))
       × IsLife seen seat first f)
+      (IsFaultOf task)
 
 module _ {S : Type 0} (seen : EndsOf S) where
   -- over all neighbours at most this many slots were taken, and at most this many accepted

@@ -3,7 +3,7 @@ ghost use Rattle.gs_peer.specs.Faults.{number_of};
 
 use gs_base::{PeerNo, Seq, Topic};
 use gs_rules::{RefusedLine, Trace};
-use gs_workers::Raised;
+use gs_workers::{FoundSet, Raised};
 
 /// What is left of a peer's life that has ended.
 #[derive(Drop)]
@@ -30,24 +30,28 @@ pub struct FinalState {
 }
 
 /// Why a task gives no life.
-#[derive(Clone, Copy, Debug, PartialEq, Eq, thiserror::Error)]
+#[derive(Debug, Drop, thiserror::Error)]
 pub enum PeerFault {
-    /// There was no memory. This is evidence that the stop flag was set before it was given.
+    /// There was no memory. This is evidence that the task's stop flag was set before it was given.
     #[error("there was no memory")]
     NoMemory(Raised),
-    /// The stop flag was set, or the task had given its result.
+    /// The task's stop flag was found set. This is evidence of that.
     #[error("the task was stopped")]
-    Stopped,
+    Stopped(FoundSet),
+    /// The task had given its result.
+    #[error("the task had ended")]
+    Over,
 }
 
 impl PeerFault {
-    /// The number of the fault: 22 where there was no memory, 23 where the task was stopped.
-    pub fn number(self) -> u8
-        ensures { result ≡ number_of self }
+    /// The number of the fault: 22 where there was no memory, and 23 where the task was stopped or had ended.
+    pub fn number(&self) -> u8
+        ensures { result ≡ number_of self.now }
     {
         match self {
             PeerFault::NoMemory(_) => 22,
-            PeerFault::Stopped => 23,
+            PeerFault::Stopped(_) => 23,
+            PeerFault::Over => 23,
         }
     }
 }

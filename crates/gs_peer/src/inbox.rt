@@ -1,4 +1,4 @@
-ghost use Rattle.std.specs.Prelude.{◌≡◌, false, true, IfOk, OnOk};
+ghost use Rattle.std.specs.Prelude.{◌≡◌, false, true, IfOk, IsSome, OnErr, OnOk};
 ghost use Rattle.gs_base.specs.declared.names.PeerNo.{PeerNo as PeerNoValue};
 ghost use Rattle.gs_link.specs.Runs.{closes};
 ghost use Rattle.gs_ends.specs.Ends.{OthersStay, has};
@@ -136,8 +136,12 @@ impl Inbox {
     }
 
     /// Reads a piece: the RPCs that are whole now are staged.
+    ///
+    /// # Errors
+    /// `AllocError` where the reader had no memory for it. The inbox is as it was then, and its reader has not failed.
     fn read(&mut self, alloc: Global, piece: &[u8]) -> Result<(), AllocError>
-        ensures { OnOk result (FeedsPiece self.old piece.now self.new) }
+        ensures fed { OnOk result (FeedsPiece self.old piece.now self.new) }
+        ensures memory { OnErr result ((self.new ≡ self.old) × IsSome self.old.reader.held) }
     {
         match self.reader.feed(alloc, piece, &mut self.stage) {
             Ok(()) => Ok(()),

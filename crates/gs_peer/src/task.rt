@@ -1,13 +1,14 @@
 ghost use Rattle.std.specs.Prelude.{◌≡◌, None, Err, IfErr, IfOk, IfSome, OnOk, true};
+ghost use Rattle.std.specs.Arc.{arc_value};
 ghost use Rattle.futures.specs.Poll.{IfReady, OnPending};
 ghost use Rattle.futures.specs.Task.{Covers, Keeps};
 ghost use Rattle.gs_ends.specs.Ends.{GrewBy};
-ghost use Rattle.gs_peer.specs.Faults.{number_of};
+ghost use Rattle.gs_peer.specs.Faults.{IsOfFlag, number_of};
 ghost use Rattle.gs_peer.specs.Life.{IsLife};
 ghost use Rattle.gs_peer.specs.Moves.{is_over};
 ghost use Rattle.gs_peer.specs.Running.{Goes, IsKept, IsOver, MayBegin, seat_of};
 ghost use Rattle.gs_peer.specs.Stepping.{Polls};
-ghost use Rattle.gs_peer.specs.Task.{Bounded, CanPoll, Gives, HasEnds, IsSuspended, IsTaskOf, given_of};
+ghost use Rattle.gs_peer.specs.Task.{Bounded, CanPoll, Gives, HasEnds, IsSuspended, IsTaskOf, flag_of, given_of};
 
 use crate::assignment::Assignment;
 use crate::finished_task::{FinishedTask, PeerFault};
@@ -19,7 +20,7 @@ use gs_cache::Payloads;
 use gs_ends::Ends;
 use gs_params::SeededWords;
 use gs_router::Router;
-use gs_workers::StopFlag;
+use gs_workers::{FoundUnset, StopFlag};
 use std::alloc::{AllocError, Global};
 use std::sync::{Arc, Mutex};
 
@@ -30,7 +31,7 @@ pub struct Surroundings<G: Gate, S: Ends> {
     pub ends: S,
     /// It hears of each round that the peer begins.
     pub gate: G,
-    /// A task that runs out of memory sets it, and one that reads it as set gives up.
+    /// A task that runs out of memory sets it, and one that finds it set gives up.
     pub stop: Arc<StopFlag>,
     /// What is known of payloads. Tasks that one thread polls share it, so that each payload is hashed once there. A poll
     /// in which another thread has it goes on without.
@@ -68,7 +69,9 @@ impl<G: Gate, S: Ends> PeerTask<G, S> {
         ensures is { IfOk result (λ task. IsTaskOf S.joints assignment router words surroundings.ends task) }
         ensures ends { IfOk result (λ task. HasEnds surroundings.ends task) }
         ensures suspended { IfOk result (λ task. IsSuspended S.Ends task) }
+        ensures flag { IfOk result (λ task. flag_of task ≡ arc_value surroundings.stop) }
         ensures memory { IfErr result (λ fault. number_of fault ≡ 22) }
+        ensures fault { IfErr result (IsOfFlag (arc_value surroundings.stop)) }
     {
         let Surroundings {
             ends,
@@ -98,8 +101,8 @@ impl<G: Gate, S: Ends> Future for PeerTask<G, S> {
     /// Takes at most 64 items and has at most 64 accepted, where a close is an item, and may stop between
     /// any two of them. It asks to be polled again at once where the life has not ended.
     ///
-    /// It gives what is left of the life; or `NoMemory`, with the stop flag set; or `Stopped` where that
-    /// was set, and where the result was given before. After any result there is nothing to give.
+    /// It gives what is left of the life; or `NoMemory`, with the task's stop flag set; or `Stopped` where it
+    /// found that set. After any result there is nothing to give, and it answers `Over`.
     // It stands apart from whoever polls many tasks, who would otherwise clear the room of a whole task at each poll.
     #[inline(never)]
     fn poll(&mut self, cx: &mut Context<'_>) -> Poll<Result<FinishedTask<S>, PeerFault>>
@@ -115,14 +118,15 @@ impl<G: Gate, S: Ends> Future for PeerTask<G, S> {
         ensures stays { OnPending result (given_of S.joints self.new ≡ given_of S.joints self.old) }
         ensures bounded { Bounded S.Ends 64 self.old self.new result }
         ensures after { IfReady result (λ _. given_of S.joints self.new ≡ None) }
-        ensures spent { given_of S.joints self.old ≡ None → result ≡ Poll.Ready (Err PeerFault.Stopped) }
+        ensures spent { given_of S.joints self.old ≡ None → result ≡ Poll.Ready (Err PeerFault.Over) }
+        ensures flag { flag_of self.new ≡ flag_of self.old }
     {
         let Some(running) = &mut self.running else {
-            return Poll::Ready(Err(PeerFault::Stopped));
+            return Poll::Ready(Err(PeerFault::Over));
         };
         match go_on(&self.stop, &self.payloads, running) {
-            Ok(true) => Poll::Ready(finish(&self.stop, &mut self.running)),
-            Ok(false) => cx.yield_now(),
+            Ok(Went { is_over: true, .. }) => Poll::Ready(finish(&self.stop, &mut self.running)),
+            Ok(Went { is_over: false, .. }) => cx.yield_now(),
             Err(fault) => {
                 give_up(&mut self.running);
                 Poll::Ready(Err(fault))
@@ -131,24 +135,35 @@ impl<G: Gate, S: Ends> Future for PeerTask<G, S> {
     }
 }
 
-/// Goes on with a life by the steps of a poll. True where it has ended. Where there is no memory the flag is set first.
+/// How a life went on.
+#[derive(Drop)]
+struct Went {
+    is_over: bool,
+    /// Evidence that the flag was looked at first, and was not set.
+    unset: FoundUnset,
+}
+
+/// Goes on with a life by the steps of a poll, unless the flag is set. Where there is no memory the flag is set first.
 fn go_on<G: Gate, S: Ends>(
     stop: &StopFlag,
     payloads: &Mutex<Payloads>,
     running: &mut Running<G, S>,
-) -> Result<bool, PeerFault>
+) -> Result<Went, PeerFault>
     requires { IsKept S.Ends running.old }
     ensures goes { OnOk result (Goes S.Ends running.old running.new) }
     ensures taken { OnOk result (GrewBy 64 (S.taken running.old.ends) (S.taken running.new.ends)) }
     ensures accepted { OnOk result (GrewBy 64 (S.accepted running.old.ends) (S.accepted running.new.ends)) }
     ensures polls { OnOk result (Polls S.Ends 64 running.old running.new) }
-    ensures over { IfOk result (λ over. over ≡ is_over running.new) }
+    ensures over { IfOk result (λ went. went.is_over ≡ is_over running.new) }
+    ensures unset { IfOk result (λ went. went.unset ≡ stop.now) }
+    ensures fault { IfErr result (IsOfFlag stop.now) }
 {
-    if stop.is_set() {
-        return Err(PeerFault::Stopped);
-    }
+    let unset = match stop.look() {
+        Ok(unset) => unset,
+        Err(found) => return Err(PeerFault::Stopped(found)),
+    };
     match run_knowing(payloads, running) {
-        Ok(over) => Ok(over),
+        Ok(is_over) => Ok(Went { is_over, unset }),
         Err(_) => Err(PeerFault::NoMemory(stop.set())),
     }
 }
@@ -187,9 +202,10 @@ fn finish<G: Gate, S: Ends>(
     ensures ends { IfSome running.old (λ t. IfOk result (λ f. f.ends ≡ t.ends)) }
     ensures taken { running.new ≡ None }
     ensures memory { IfSome running.old (λ t. IfErr result (λ fault. number_of fault ≡ 22)) }
+    ensures fault { IfSome running.old (λ t. IfErr result (IsOfFlag stop.now)) }
 {
     let Some(mut life) = running.take() else {
-        return Err(PeerFault::Stopped);
+        return Err(PeerFault::Over);
     };
     match life.final_state() {
         Ok(state) => Ok(life.finish(state)),

@@ -18,7 +18,7 @@ use crate::tests::breaking::{HANG_UPS, RAWS};
 use crate::tests::cases::{Case, LONG, NOTHING, SCRIPT, SCRIPTS, STREAMS, SUBSCRIBER};
 use crate::tests::gathering::GATHERED;
 use crate::tests::items::{Word, lines, said};
-use crate::tests::made::{AtMost, ONE, lists, payloads, task, task_in};
+use crate::tests::made::{AtMost, ONE, flag, lists, payloads, task, task_in};
 use crate::tests::over_lists::{NEWS, report_of};
 use futures::executor::block_on;
 use gs_base::PeerNo;
@@ -197,12 +197,12 @@ fn what_is_never_accepted_keeps_a_task_pending(rt: HostRuntime) -> Result<(), Fa
 
 // ---- faults
 
-/// The answer of a task whose flag is set.
+/// The fault of a task whose flag is set.
 fn stopped<R>(rt: &R) -> io::Result<Option<PeerFault>>
 where
     R: Wait + RandomSource + AllocGlobal,
 {
-    let stop = Arc::new(rt.alloc(), StopFlag::new())?;
+    let stop = flag(rt.alloc())?;
     stop.set();
     let surroundings = Surroundings {
         ends: lists(rt.alloc(), ONE.other, said(rt.alloc(), SUBSCRIBER)?, 10, 0)?,
@@ -216,11 +216,7 @@ where
 
 #[test]
 fn a_flag_stops_a_task(rt: HostRuntime) -> Result<(), Fail> {
-    let flag = StopFlag::new();
-    assert_eq!(rt; flag.is_set(), false);
-    flag.set();
-    assert_eq!(rt; flag.is_set(), true);
-    assert_eq!(rt; stopped(&rt)?, Some(PeerFault::Stopped));
+    assert!(rt; matches!(stopped(&rt)?, Some(PeerFault::Stopped(_))));
     Ok(())
 }
 
@@ -233,7 +229,7 @@ where
     let surroundings = Surroundings {
         ends: lists(rt.alloc(), ONE.other, said(rt.alloc(), SUBSCRIBER)?, 10, 0)?,
         gate: NoGate,
-        stop: Arc::new(rt.alloc(), StopFlag::new())?,
+        stop: flag(rt.alloc())?,
         payloads: payloads.clone()?,
     };
     let held = payloads.try_lock();
@@ -249,13 +245,15 @@ fn a_task_goes_on_while_its_payloads_are_in_use(rt: HostRuntime) -> Result<(), F
 
 #[test]
 fn each_fault_has_its_number_and_text(rt: HostRuntime) -> Result<(), AllocError> {
+    let stop = StopFlag::new(rt.alloc())?;
+    let raised = stop.set();
+    let Err(found) = stop.look() else {
+        panic!(rt; "a flag that was set is not set")
+    };
     let faults = [
-        (
-            PeerFault::NoMemory(StopFlag::new().set()),
-            22,
-            "there was no memory",
-        ),
-        (PeerFault::Stopped, 23, "the task was stopped"),
+        (PeerFault::NoMemory(raised), 22, "there was no memory"),
+        (PeerFault::Stopped(found), 23, "the task was stopped"),
+        (PeerFault::Over, 23, "the task had ended"),
     ];
     for (fault, number, text) in &faults {
         let shown = format!(in rt.alloc(); "{fault}")?;

@@ -3,3 +3,4 @@ pub mod Ending
 pub mod Dealing
 pub mod Gathering
 pub mod Running
+pub mod Flags

@@ -1,2 +1,4 @@
 pub mod Deals
 pub mod Groups
+pub mod Flags
+pub mod Faults

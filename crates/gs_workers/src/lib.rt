@@ -8,7 +8,7 @@ mod stop_flag;
 mod workers;
 
 pub use fault::WorkerFault;
-pub use stop_flag::{Raised, StopFlag};
+pub use stop_flag::{FoundSet, FoundUnset, Raised, StopFlag};
 pub use workers::{Ran, run_all};
 
 #[cfg(test)]

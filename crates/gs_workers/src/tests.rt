@@ -21,7 +21,9 @@ where
     R: Threads + Wait + RandomSource + AllocGlobal + Sync,
     requires { 1 ≤ workers }
 {
-    let stop = StopFlag::new();
+    let Ok(stop) = StopFlag::new(rt.alloc()) else {
+        return false;
+    };
     match given(rt, workers, count, &stop) {
         Ok(ran) => { ran.outputs.as_slice() == numbers && ran.threads == workers && !stop.is_set() }
         Err(_) => false,
@@ -45,27 +47,39 @@ fn no_futures_give_no_outputs(rt: HostRuntime) {
 
 /// There is no memory for this many workers; the flag is set.
 #[test]
-fn too_many_workers_are_want_of_memory(rt: HostRuntime) {
-    let stop = StopFlag::new();
+fn too_many_workers_are_want_of_memory(rt: HostRuntime) -> Result<(), AllocError> {
+    let stop = StopFlag::new(rt.alloc())?;
     let ran = given(&rt, usize::MAX, 1, &stop);
     assert!(rt; stop.is_set());
-    assert!(rt; ran.err() == Some(WorkerFault::NoMemory(stop.set())));
+    assert!(rt; matches!(ran, Err(WorkerFault::NoMemory(_))));
+    Ok(())
 }
 
 #[test]
-fn a_flag_is_set_once_it_was_set(rt: HostRuntime) {
-    let stop = StopFlag::new();
+fn a_flag_is_set_once_it_was_set(rt: HostRuntime) -> Result<(), AllocError> {
+    let stop = StopFlag::new(rt.alloc())?;
     assert!(rt; !stop.is_set());
-    stop.set();
-    assert!(rt; stop.is_set());
+    assert!(rt; stop.look().is_ok());
+    let raised = stop.set();
+    let found = stop.look().err();
+    assert!(rt; stop.is_set() && found.is_some());
+    let shown = format!(in rt.alloc();
+        "{raised:?} {found:?} {:?}",
+        StopFlag::new(rt.alloc())?.look().ok()
+    )?;
+    assert_eq!(rt; shown.as_str(), "Raised Some(FoundSet) Some(FoundUnset)");
+    Ok(())
 }
 
 #[test]
 fn each_fault_has_its_text(rt: HostRuntime) -> Result<(), AllocError> {
-    let raised = StopFlag::new().set();
+    let stop = StopFlag::new(rt.alloc())?;
     let faults = [
-        (WorkerFault::NoMemory(raised), "there was no memory"),
-        (WorkerFault::NoThread(raised), "a worker thread was missing"),
+        (WorkerFault::NoMemory(stop.set()), "there was no memory"),
+        (
+            WorkerFault::NoThread(stop.set()),
+            "a worker thread was missing",
+        ),
     ];
     for (fault, text) in &faults {
         let shown = format!(in rt.alloc(); "{fault}")?;
@@ -83,23 +97,24 @@ fn four_guests<'m>(alloc: Global, meeting: &'m Meeting) -> Result<Vec<Guest<'m>>
 }
 
 /// Whether four futures on four workers all meet.
-fn all_meet<R>(rt: &R, meeting: &Meeting) -> Result<bool, WorkerFault>
+fn all_meet<R>(rt: &R, meeting: &Meeting) -> Result<bool, AllocError>
 where
     R: Threads + Wait + RandomSource + AllocGlobal + Sync,
 {
-    let stop = StopFlag::new();
-    let Ok(guests) = four_guests(rt.alloc(), meeting) else {
-        return Err(WorkerFault::NoMemory(stop.set()));
-    };
-    let ran = run_all(rt, 4, &stop, guests)?;
-    Ok(ran.outputs.as_slice() == [true; 4].as_slice())
+    let stop = StopFlag::new(rt.alloc())?;
+    let guests = four_guests(rt.alloc(), meeting)?;
+    match run_all(rt, 4, &stop, guests) {
+        Ok(ran) => Ok(ran.outputs.as_slice() == [true; 4].as_slice()),
+        Err(_) => Ok(false),
+    }
 }
 
 /// Each of four workers drives its future while the others drive theirs.
 #[test]
-fn workers_run_side_by_side(rt: HostRuntime) {
+fn workers_run_side_by_side(rt: HostRuntime) -> Result<(), AllocError> {
     let meeting = Meeting::new();
-    assert!(rt; all_meet(&rt, &meeting) == Ok(true));
+    assert!(rt; all_meet(&rt, &meeting)?);
+    Ok(())
 }
 
 /// Five futures and two groups: the last of a group is the first that was dealt to it.

@@ -1,9 +1,11 @@
 //! Worker threads. Each drives a group of futures.
-ghost use Rattle.std.specs.Prelude.{◌≡◌, ◌≤◌, IfOk, [], length, map, vec_capacity};
+ghost use Rattle.std.specs.Prelude.{◌≡◌, ◌≤◌, IfErr, IfOk, MatchResult, [], length, map, vec_capacity};
 ghost use Rattle.std.specs.List.{All, AllByRecursion, AllZip};
 ghost use Rattle.std.specs.VecDeque.{deque_len};
 ghost use Rattle.futures.specs.declared.future.made.maybe_done.MaybeDone.TheVariants.{Future as FutureValue};
 ghost use Rattle.gs_workers.specs.Deals.{IsDealt, lists_of};
+ghost use Rattle.gs_workers.specs.Faults.{HasSet, flag_in};
+ghost use Rattle.gs_workers.specs.Flags.{FlagId};
 ghost use Rattle.gs_workers.specs.Groups.{AllEnd, AllLive, EndsAs};
 
 use crate::deal::{Groups, deal, gather};
@@ -27,13 +29,14 @@ type Driven<F, T> = Result<Vec<MaybeDone<F, T>>, Raised>;
 /// A worker that is still to be joined.
 type Worker<F, T> = PromisedHandle<Driven<F, T>, OfGroup<F, T>>;
 
-/// What a worker promises: each future of its group gives what it may give.
+/// What a worker promises of its group and its flag: each future of the group gives what it may give, or the flag is set.
 #[derive(Drop)]
-struct OfGroup<F, T>(Snapshot<Vec<MaybeDone<F, T>>>);
+struct OfGroup<F, T>(Snapshot<Vec<MaybeDone<F, T>>>, Snapshot<StopFlag>);
 
 impl<F: Future<Output: Drop>> Promise<Driven<F, F::Output>> for OfGroup<F, F::Output> {
-    ghost kept_by = { λ promise driven. IfOk driven (λ ended.
-        AllEnd F.gives promise.0.value.items ended.items) };
+    ghost kept_by = { λ promise driven. MatchResult driven
+        (λ ended. AllEnd F.gives promise.0.value.items ended.items)
+        (λ raised. raised ≡ promise.1.value) };
 }
 
 /// What futures gave, and on how many threads they ran.
@@ -64,14 +67,16 @@ where
     requires ready { All F.can_poll futures.items }
     ensures given { IfOk result (λ ran. AllZip F.gives futures.items ran.outputs.items) }
     ensures threads { IfOk result (λ ran. ran.threads ≡ workers) }
+    ensures fault { IfErr result (λ fault. flag_in fault ≡ stop.now) }
 {
     thread::scope(
         thread::scope_env(),
         rt,
         move |scope| -> Result<Ran<F::Output>, WorkerFault>
             requires { (1 ≤ workers) × All F.can_poll futures.items }
-            ensures { IfOk result (λ ran.
-                AllZip F.gives futures.items ran.outputs.items × (ran.threads ≡ workers)) }
+            ensures { MatchResult result
+                (λ ran. AllZip F.gives futures.items ran.outputs.items × (ran.threads ≡ workers))
+                (λ fault. flag_in fault ≡ stop.entry.now) }
         {
             match run_in(scope, rt, workers, stop, futures) {
                 Ok(ran) => Ok(ran),
@@ -97,6 +102,7 @@ where
     requires ready { All F.can_poll futures.items }
     ensures given { IfOk result (λ ran. AllZip F.gives futures.items ran.outputs.items) }
     ensures threads { IfOk result (λ ran. ran.threads ≡ workers) }
+    ensures want { IfErr result (HasSet stop.now) }
 {
     let groups = drive_all(scope, rt, workers, stop, futures)?;
     let threads = groups.len();
@@ -120,6 +126,7 @@ where
     ensures threads { IfOk result (λ groups. deque_len groups ≡ workers) }
     ensures dealt { IfOk result (λ groups. IsDealt
         (λ future member. EndsAs F.gives (FutureValue future) member) futures.items (lists_of groups.items)) }
+    ensures want { IfErr result (HasSet stop.now) }
 {
     let alloc = rt.alloc();
     let groups = deal(alloc, workers, futures)?;
@@ -149,9 +156,12 @@ where
     ensures count { IfOk result (λ started. length started.items ≡ deque_len groups) }
     ensures each { IfOk result (λ started.
         map (λ worker. worker.promise.0.value.items) started.items ≡ lists_of groups.items) }
+    ensures flags { IfOk result (λ started.
+        AllByRecursion (λ worker. worker.promise.1.value ≡ stop.now) started.items) }
+    ensures raised { IfErr result (λ raised. raised ≡ stop.now) }
 {
     while let Some(group) = groups.pop_front() {
-        let promise = OfGroup(Snapshot::of(&group));
+        let promise = OfGroup(Snapshot::of(&group), Snapshot::of(stop));
         let Ok(worker) = scope.spawn_with(promise, move || drive(rt, stop, group)) else {
             return Err(stop.set());
         };
@@ -175,7 +185,8 @@ where
     F: Future<Output: Drop>,
     R: Wait + RandomSource + AllocGlobal,
     requires { AllLive F.can_poll members.items }
-    ensures { IfOk result (λ ended. AllEnd F.gives members.items ended.items) }
+    ensures { MatchResult result (λ ended. AllEnd F.gives members.items ended.items)
+        (λ raised. raised ≡ stop.now) }
 {
     match block_on(rt, Group { members }) {
         Ok(ended) => Ok(ended),
@@ -195,6 +206,9 @@ where
     ensures count { IfOk result (λ groups. deque_len groups ≡ length workers.items) }
     ensures each { IfOk result (λ groups. AllZip (AllEnd F.gives)
         (map (λ worker. worker.promise.0.value.items) workers.items) (lists_of groups.items)) }
+    ensures want { IfErr result (λ want. (flag : FlagId)
+        → AllByRecursion (λ worker. worker.promise.1.value ≡ flag) workers.items
+        → HasSet flag want) }
 {
     let mut groups = VecDeque::with_capacity(alloc, workers.len())?;
     for worker in workers {

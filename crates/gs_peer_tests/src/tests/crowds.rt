@@ -5,8 +5,7 @@ ghost use Rattle.gs_base.specs.declared.names.PeerNo.{PeerNo as PeerNoValue};
 ghost use Rattle.gs_params.specs.Picks.{IsAscending};
 ghost use Rattle.gs_link.specs.Items.{IsSendable};
 ghost use Rattle.gs_ends.specs.Ends.{has};
-ghost use Rattle.gs_ends.specs.Lists.{BringsSendable, joints_in_lists, list_ends, senders_of, taken_in_lists};
-ghost use Rattle.gs_ends.specs.Pairs.{accepted_for};
+ghost use Rattle.gs_ends.specs.Lists.{BringsSendable, accepted_in_lists, joints_in_lists, list_ends, senders_of, taken_in_lists};
 ghost use Rattle.gs_peer.specs.Task.{CanPoll};
 
 use crate::tests::gates::Turns;
@@ -158,7 +157,7 @@ fn inbound(
 fn ends(alloc: Global, numbers: &[PeerNo], crowd: &Crowd<'_>) -> Result<ListEnds, AllocError>
     requires { IsAscending numbers.now }
     ensures known { IfOk result (λ ends. AllByRecursion (λ q. has (joints_in_lists ends) q ≡ true) numbers.now) }
-    ensures accepted { IfOk result (λ ends. (q : PeerNoValue) → accepted_for ends q ≡ []) }
+    ensures accepted { IfOk result (λ ends. (q : PeerNoValue) → accepted_in_lists ends q ≡ []) }
     ensures taken { IfOk result (λ ends. (q : PeerNoValue) → taken_in_lists ends q ≡ []) }
 {
     let inbound = inbound(alloc, numbers, crowd.hears)?;
@@ -193,7 +192,7 @@ fn task_among(
     requires rounds { crowd.now.rounds ≤ 100_000 }
     requires ascending { IsAscending numbers.items }
     requires known { AllByRecursion (λ q. has (joints_in_lists surroundings.ends) q ≡ true) numbers.items }
-    requires accepted { (q : PeerNoValue) → accepted_for surroundings.ends q ≡ [] }
+    requires accepted { (q : PeerNoValue) → accepted_in_lists surroundings.ends q ≡ [] }
     requires taken { (q : PeerNoValue) → taken_in_lists surroundings.ends q ≡ [] }
     ensures { IfOk result (λ task. CanPoll list_ends task) }
 {

@@ -1,10 +1,9 @@
 //! A gate that a task passes at each round.
 use crate::tests::cases::{SCRIPT, SUBSCRIBER};
 use crate::tests::items::{lines, said};
-use crate::tests::made::{ONE, lists, payloads, task_in};
+use crate::tests::made::{ONE, flag, lists, payloads, task_in};
 use futures::executor::block_on;
 use gs_peer::{Gate, Surroundings};
-use gs_workers::StopFlag;
 use std::sync::Arc;
 use std::sync::atomic::{AtomicU64, Ordering};
 use std::test::*;
@@ -35,7 +34,7 @@ fn a_gate_hears_of_each_round(rt: HostRuntime) -> Result<(), Fail> {
         gate: Turns {
             seen: seen.clone()?,
         },
-        stop: Arc::new(rt.alloc(), StopFlag::new())?,
+        stop: flag(rt.alloc())?,
         payloads: payloads(rt.alloc())?,
     };
     let task = task_in(rt.alloc(), ONE, lines(rt.alloc(), SCRIPT)?, 2, surroundings)?;

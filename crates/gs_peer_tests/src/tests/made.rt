@@ -9,7 +9,7 @@ ghost use Rattle.gs_params.specs.Picks.{IsAscending};
 ghost use Rattle.gs_link.specs.Items.{IsSendable};
 ghost use Rattle.gs_ends.specs.Ends.{has};
 ghost use Rattle.gs_ends.specs.Pairs.{accepted_for, joints_of, taken_from};
-ghost use Rattle.gs_ends.specs.Lists.{joints_in_lists, taken_in_lists};
+ghost use Rattle.gs_ends.specs.Lists.{accepted_in_lists, joints_in_lists, taken_in_lists};
 ghost use Rattle.gs_rules.specs.Peers.{links_of};
 ghost use Rattle.gs_peer.specs.Task.{CanPoll, HasJoints};
 
@@ -164,6 +164,12 @@ pub fn payloads(alloc: Global) -> Result<Arc<Mutex<Payloads>>, AllocError> {
     Ok(payloads)
 }
 
+/// A flag that nobody has set.
+pub fn flag(alloc: Global) -> Result<Arc<StopFlag>, AllocError> {
+    let stop = Arc::new(alloc, StopFlag::new(alloc)?)?;
+    Ok(stop)
+}
+
 /// These ends and this gate, a flag that nobody sets, and payloads that nobody else knows.
 pub fn surrounded<G: Gate, S: Ends>(
     alloc: Global,
@@ -175,7 +181,7 @@ pub fn surrounded<G: Gate, S: Ends>(
     Ok(Surroundings {
         ends,
         gate,
-        stop: Arc::new(alloc, StopFlag::new())?,
+        stop: flag(alloc)?,
         payloads: payloads(alloc)?,
     })
 }
@@ -198,7 +204,7 @@ pub fn task<S: Ends>(
     let surroundings = Surroundings {
         ends,
         gate: NoGate,
-        stop: Arc::new(alloc, StopFlag::new())?,
+        stop: flag(alloc)?,
         payloads: payloads(alloc)?,
     };
     task_in(alloc, pair, lines, rounds, surroundings)
@@ -225,7 +231,7 @@ pub fn lists(
     every: u64,
 ) -> Result<ListEnds, AllocError>
     ensures known { IfOk result (λ ends. has (joints_in_lists ends) other ≡ true) }
-    ensures accepted { IfOk result (λ ends. (q : PeerNoValue) → accepted_for ends q ≡ []) }
+    ensures accepted { IfOk result (λ ends. (q : PeerNoValue) → accepted_in_lists ends q ≡ []) }
     ensures taken { IfOk result (λ ends. (q : PeerNoValue) → taken_in_lists ends q ≡ []) }
 {
     if !are_sendable(&items) {

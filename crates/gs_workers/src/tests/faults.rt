@@ -97,7 +97,7 @@ where
     R: Threads + Wait + RandomSource + AllocGlobal + Sync + Drop,
     requires { 1 ≤ workers }
 {
-    let stop = StopFlag::new();
+    let stop = StopFlag::new(rt.alloc())?;
     let ends = EndCounts {
         by_flag: AtomicU64::new(0),
         in_vain: AtomicU64::new(0),
@@ -110,7 +110,7 @@ where
     let fault = run_all(&rt, workers, &stop, futures).err();
     Ok(
         stop.is_set()
-            && fault == Some(WorkerFault::NoThread(stop.set()))
+            && matches!(fault, Some(WorkerFault::NoThread(_)))
             && ends.by_flag.load(Ordering::SeqCst) == workers as u64 - 1
             && ends.in_vain.load(Ordering::SeqCst) == 0,
     )

@@ -1,4 +1,5 @@
 use Rattle.std.proofs.Common.{◌∙◌, ◌*◌, ℕ, List, length, map, sym, ap, subst, arith}
+use Rattle.std.specs.Arc.{arc_value}
 use Rattle.std.specs.List.{AllByRecursion, range_with_len}
 use Rattle.std.proofs.lemmas.List.Elements.{All-from_recursion}
 use Rattle.gs_plan.specs.declared.plan.Dial.{Dial}
@@ -6,7 +7,7 @@ use Rattle.gs_net.specs.Dials.{AreWired, IsExchanged}
 use Rattle.gs_seats.specs.Rounds.{IsRun, numbers, peer_no}
 use Rattle.gs_seats.proofs.FewDials.{links_fit}
 use Rattle.gs_seats.proofs.ByNumber.{as_long, as_many}
-use Rattle.gs_net.proofs.Gathered.{can_all, ends_as_many, ends_left, gave, lives_each, same_joints}
+use Rattle.gs_net.proofs.Gathered.{can_all, ends_as_many, ends_left, gave, lives_each, same_joints, stops_all}
 use Rattle.gs_net.proofs.Together.{together}
 use Rattle.gs_net.proofs.Wired.{dials_join, ends_apart, ends_closed, ends_exchanged, usable}
 use Rattle.gs_net.proofs.Wiring.{still_wired}
@@ -34,7 +35,10 @@ tasks-requires g c =
     }
 
 pub drive-requires-clause-ready : goal.drive-requires-clause-ready
-drive-requires-clause-ready g c κs lives = All-from_recursion _ _ (can_all c.args.plan.now c.in_ok-ends.ends.items c.in_ok-tasks.tasks.items c.in_ok-tasks.ensures)
+drive-requires-clause-ready g c κs lives = All-from_recursion _ _ (can_all c.args.plan.now (arc_value c.in_ok-stop.stop) c.in_ok-ends.ends.items c.in_ok-tasks.tasks.items c.in_ok-tasks.ensures)
+
+pub drive-requires-clause-flags : goal.drive-requires-clause-flags
+drive-requires-clause-flags g c κs lives = stops_all c.args.plan.now (arc_value c.in_ok-stop.stop) c.in_ok-ends.ends.items c.in_ok-tasks.tasks.items c.in_ok-tasks.ensures
 
 pub lives_of-requires : goal.lives_of-requires
 lives_of-requires g c =
@@ -47,7 +51,7 @@ wired_after g c =
     let plan = c.args.plan.now in
     let ends = c.in_ok-ends.ends.items in
     let (givens, are, apart) = c.in_ok-lives.ensures.lives in
-    let all = gave plan ends c.in_ok-tasks.tasks.items c.in_ok-ran.ran.outputs.items givens c.in_ok-tasks.ensures c.in_ok-ran.ensures.given are in
+    let all = gave plan (arc_value c.in_ok-stop.stop) ends c.in_ok-tasks.tasks.items c.in_ok-ran.ran.outputs.items givens c.in_ok-tasks.ensures c.in_ok-ran.ensures.given are in
     still_wired plan.dials ends c.in_ok-lives.lives.ends.items (same_joints plan ends givens _ (c.in_ok-ends.ensures.count ∙ c.len.ensures) all apart) (subst (λ (dials : List Dial). AreWired dials ends) c.as_slice.ensures c.in_ok-ends.ensures.wired)
 
 pub settle_all-settled-requires-clause-named : goal.settle_all-settled-requires-clause-named
@@ -55,7 +59,7 @@ settle_all-settled-requires-clause-named g c =
     let plan = c.args.plan.now in
     let ends = c.in_ok-ends.ends.items in
     let (givens, are, apart) = c.in_ok-lives.ensures.lives in
-    let all = gave plan ends c.in_ok-tasks.tasks.items c.in_ok-ran.ran.outputs.items givens c.in_ok-tasks.ensures c.in_ok-ran.ensures.given are in
+    let all = gave plan (arc_value c.in_ok-stop.stop) ends c.in_ok-tasks.tasks.items c.in_ok-ran.ran.outputs.items givens c.in_ok-tasks.ensures c.in_ok-ran.ensures.given are in
     rw (c.as_slice-2.ensures, ends_as_many givens _ apart, as_many _ plan givens all) (dials_join plan c.requires)
 
 pub settle_all-settled-requires-clause-wired : goal.settle_all-settled-requires-clause-wired
@@ -69,7 +73,7 @@ settle_all-settled-requires-clause-closed g c =
     let plan = c.args.plan.now in
     let ends = c.in_ok-ends.ends.items in
     let (givens, are, apart) = c.in_ok-lives.ensures.lives in
-    let all = gave plan ends c.in_ok-tasks.tasks.items c.in_ok-ran.ran.outputs.items givens c.in_ok-tasks.ensures c.in_ok-ran.ensures.given are in
+    let all = gave plan (arc_value c.in_ok-stop.stop) ends c.in_ok-tasks.tasks.items c.in_ok-ran.ran.outputs.items givens c.in_ok-tasks.ensures c.in_ok-ran.ensures.given are in
     ends_closed plan givens c.in_ok-lives.lives.ends.items c.requires (lives_each plan ends (numbers plan) givens all) (ends_left givens _ apart) (wired_after g c)
 
 pub settle_all-settled-requires-clause-few : goal.settle_all-settled-requires-clause-few
@@ -80,7 +84,7 @@ returns g c =
     let plan = c.args.plan.now in
     let ends = c.in_ok-ends.ends.items in
     let (givens, are, apart) = c.in_ok-lives.ensures.lives in
-    let all = gave plan ends c.in_ok-tasks.tasks.items c.in_ok-ran.ran.outputs.items givens c.in_ok-tasks.ensures c.in_ok-ran.ensures.given are in
+    let all = gave plan (arc_value c.in_ok-stop.stop) ends c.in_ok-tasks.tasks.items c.in_ok-ran.ran.outputs.items givens c.in_ok-tasks.ensures c.in_ok-ran.ensures.given are in
     let exchanged = ends_exchanged givens c.in_ok-lives.lives.ends.items plan.dials (ends_left givens _ apart) (subst (λ (dials : List Dial). AllByRecursion (IsExchanged c.in_ok-lives.lives.ends.items) dials) c.as_slice-2.ensures c.settle_all-settled.ensures.exchanged) in
     record {
       numbers_are = apart.numbers ∙ ap (λ (n : ℕ). map peer_no (range_with_len 0 n)) (as_many _ plan givens all);

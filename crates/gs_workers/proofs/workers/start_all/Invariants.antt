@@ -11,6 +11,7 @@ invariant-loop-group g l =
     × (length l.workers.items + deque_len l.groups ≡ deque_len l.fn.groups)
     × (length l.workers.items + deque_len l.groups ≤ vec_capacity l.workers)
     × (map (λ worker. worker.promise.0.value.items) l.workers.items ++ lists_of l.groups.items ≡ lists_of l.fn.groups.items)
+    × AllByRecursion (λ worker. worker.promise.1.value ≡ l.fn.stop) l.workers.items
 
 abbrev pub decreases-loop-group : goal.decreases-loop-group
 decreases-loop-group g l = deque_len l.groups

@@ -13,4 +13,5 @@ pub returns-in-Ok : goal.returns-in-Ok
 returns-in-Ok g c = record {
   can = c.in-Ok.ensures.can;
   is = c.in-Ok.ensures.is ∙ given_there c.args.self.now.plan.now c.args.number c.in_ok-assignment.assignment c.in_ok-router.router c.in_ok-words.words c.args.ends.items c.new.result c.in_ok-assignment.ensures c.in_ok-router.ensures c.in_ok-words.ensures c.new.ensures.ends;
+  stops = c.in-Ok.ensures.flag ∙ c.in_ok-stop.ensures;
 }

@@ -10,22 +10,22 @@ use Rattle.gs_peer.proofs.inbox.Inbox.read.Goals as goal
 abbrev seen : PeerNo → Holding → List Rpc → Bool → Bool → InboxView
 seen peer reader stage is_marked is_closed = record { peer = peer; reader = reader; stage = stage; is_marked = is_marked; is_closed = is_closed }
 
-pub returns-in-Ok : goal.returns-in-Ok
-returns-in-Ok c =
+pub returns-in-Ok-clause-fed : goal.returns-in-Ok-clause-fed
+returns-in-Ok-clause-fed c =
     let x = seen c.self.inside.peer c.self.inside.reader c.self.inside.stage.items c.self.inside.is_marked c.self.inside.is_closed in
     rw (← c.self.view_is) (fed x c.feed.new.self c.feed.new.rpcs.items c.args.piece.now ends.Waits (search rules))
 
-pub returns-in-Err-Failed : goal.returns-in-Err-Failed
-returns-in-Err-Failed c =
+pub returns-in-Err-Failed-clause-fed : goal.returns-in-Err-Failed-clause-fed
+returns-in-Err-Failed-clause-fed c =
     let x = seen c.self.inside.peer c.self.inside.reader c.self.inside.stage.items c.self.inside.is_marked c.self.inside.is_closed in
     rw (← c.self.view_is) (unfed x c.feed.new.self c.feed.new.rpcs.items c.args.piece.now (search rules) (search rules) (search rules))
 
-pub returns-in-Err-Malformed : goal.returns-in-Err-Malformed
-returns-in-Err-Malformed c =
+pub returns-in-Err-Malformed-clause-fed : goal.returns-in-Err-Malformed-clause-fed
+returns-in-Err-Malformed-clause-fed c =
     let x = seen c.self.inside.peer c.self.inside.reader c.self.inside.stage.items c.self.inside.is_marked c.self.inside.is_closed in
     rw (← c.self.view_is) (fed x c.feed.new.self c.feed.new.rpcs.items c.args.piece.now ends.Malformed (search rules))
 
-pub returns-in-Err-TooLong : goal.returns-in-Err-TooLong
-returns-in-Err-TooLong c =
+pub returns-in-Err-TooLong-clause-fed : goal.returns-in-Err-TooLong-clause-fed
+returns-in-Err-TooLong-clause-fed c =
     let x = seen c.self.inside.peer c.self.inside.reader c.self.inside.stage.items c.self.inside.is_marked c.self.inside.is_closed in
     rw (← c.self.view_is) (fed x c.feed.new.self c.feed.new.rpcs.items c.args.piece.now ends.TooLong (search rules))

@@ -1,4 +1,6 @@
-use Rattle.std.proofs.Common.{◌≡◌, None, Some, false, refl, rules, true}
+use Rattle.std.proofs.Common.{◌≡◌, IfErr, None, Some, false, refl, rules, subst, true}
+use Rattle.gs_workers.specs.Flags.{FlagId}
+use Rattle.gs_peer.specs.Faults.{IsOfFlag}
 use Rattle.gs_peer.specs.Moves.{is_over}
 use Rattle.gs_peer.proofs.Fullness.{over_is}
 use Rattle.gs_peer.proofs.Polls.{bounded_pending, ended, gives_life, on_pending}
@@ -31,3 +33,4 @@ pub returns-in-Ok-true-clause-value : goal.returns-in-Ok-true-clause-value
 returns-in-Ok-true-clause-value g c =
     let was : c.args.self.now.running ≡ Some c.in-Some.running = search rules in
     gives_life g.S.Ends c.args.self.now c.in-Some.running c.go_on.new.running c.finish.result was c.in-Ok-true.ensures.goes c.finish.ensures.life c.finish.ensures.ends
+    (subst (λ (k : FlagId). IfErr c.finish.result (IsOfFlag k)) c.deref-in-Ok-true.ensures c.finish.ensures.fault)
