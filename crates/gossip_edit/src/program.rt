@@ -46,13 +46,13 @@ impl From<ExitStatus> for ExitCode {
 /// What is said where the arguments are no edits.
 pub const USAGE: &str = "usage: gossip_edit KEY=VALUE..\n";
 
-/// What is said where there is no memory.
+/// What is said out of memory.
 pub const NO_MEMORY: &str = "edit refused: no memory\n";
 
 /// Reads a scenario from the input, sets the key of each argument to the argument's value, and writes
-/// the changed scenario to the output. Its comments are gone, and the keys of each table ascend. Why
-/// there is none is a line on `errors`; where that can't be written, the status stays the same. With
-/// arguments that are no edits the input is not read.
+/// the changed scenario to the output. Its comments are gone, and the keys of each table ascend. Where
+/// there is no changed scenario, a line on `errors` says why. Where that line can't be written, the
+/// status stays the same. Where the arguments are no edits, the input is not read.
 pub fn run<R, W, E>(
     alloc: Global,
     arguments: &[String],

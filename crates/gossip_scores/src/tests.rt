@@ -167,7 +167,7 @@ round,at,peer,event,neighbour,topic,part,counted,weighed
 4,400,\"a\",heartbeat,\"b\",,behaviour_penalty,0.000000,0.000000
 ";
 
-/// The decay at 500 is told as it left the penalty, and the heartbeat and the shutdown after it.
+/// The decay at 500 has the penalty as it left it, and the heartbeat and the shutdown after it.
 const PRUNED_IN_5: &str = "\
 round,at,peer,event,neighbour,topic,part,counted,weighed
 5,500,\"b\",decay,\"a\",,score,,-2.000000

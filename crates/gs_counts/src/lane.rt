@@ -253,7 +253,7 @@ impl Lane {
     }
 }
 
-/// Notes a frame of so many bytes.
+/// Notes a frame of this many bytes.
 fn note_frame(list: &mut Vec<Happening>, scene: Scene, bytes: u64) -> Result<(), AllocError>
     ensures { OnOk result (list.new.items ≡ list.old.items ++ frame_happenings scene bytes) }
 {

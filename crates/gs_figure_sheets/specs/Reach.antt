@@ -58,7 +58,7 @@ message_rounds s =
 unfoldable pub message_row : Plan → MessageReach → List Value
 message_row plan m = message_names plan m ++ message_counts m ++ message_rounds (spread m.pairs)
 
--- how many pairs an outcome has, within so many rounds where it is a limit, and their share of all
+-- how many pairs an outcome has, within a number of rounds where it is a limit, and their share of all
 abbrev pub outcome_row : List ℕ → Value → ℕ → ℕ → List Value
 outcome_row word limit part all = Name word ∷ limit ∷ Count part ∷ Share (share_of part all) ∷ []
 

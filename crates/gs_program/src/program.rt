@@ -30,11 +30,12 @@ pub enum ExitStatus {
     Reported,
     /// The scenario is refused, and a line on `errors`, or a front of it, says so.
     ScenarioRefused,
-    /// The run met a fault, or there was no memory for its text. No clause says that either happened.
+    /// The run met a fault, or was out of memory for its text. No field says which, and no clause that either happened.
     RunRefused,
-    /// There was no memory for the rest of the text. A front of it is on the output: by the clause, even all of it.
+    /// Out of memory for the rest of the text. A front of it is on the output: by the clause, even all of it.
     TextRefused,
-    /// A read of the input failed, or it was read `MOST_READS` times and had not ended. No clause says that either happened.
+    /// A read of the input failed, or it was read `MOST_READS` times and had not ended. No field says which, and no clause
+    /// that either happened.
     InputFailed,
     /// A write of the text failed, or took nothing. A front of it is on the output: by the clause, even all of it.
     OutputFailed,

@@ -119,7 +119,8 @@ abbrev pub unless_refused : Event → Option Refusal → Option Event
 unless_refused event None = Some event
 unless_refused event (Some why) = None
 
--- these lines put no bytes that are no frames on q's link; a line with no bytes does not either
+-- No line puts raw bytes on q's link, whether they are frames or not. A line that is refused counts, too; one with no bytes
+-- does not.
 abbrev pub PutsNoBytes : PeerNo → List (ℕ × Line) → Type 0
 PutsNoBytes q lines = AllByRecursion (λ (x : ℕ × Line). raw_to q (events.Own x.1.what) ≡ []) lines
 

@@ -123,14 +123,15 @@ pub record IsLifeInRun (plan : Plan) (lives : List Finished) (p : PeerNo) (life 
   pub meshes : life.meshes ≡ meshes_of life.trace
   -- its neighbours scored this when it shut down, which nothing after that changes
   pub scores : life.scores ≡ scores_of (peer_in plan p) life.trace (plan.rounds * plan.round_ms)
-  -- what it handled of a neighbour is what the bytes spell that the neighbour's trace says to it
+  -- What it handled of a neighbour is what the bytes spell that the neighbour's trace says to it, up to the first bytes
+  -- that spell no RPC.
   pub exchanged : AllByRecursion (λ q. Spell (bytes_of (said_to lives p q)) (handled life.trace q)) (neighbours plan p)
-  -- and where no line of the neighbour's script puts bytes on their link, it is, joined, what the neighbour sends to it,
-  -- joined: whole, once, in order
+  -- Where no line of the neighbour's script puts raw bytes on their link, it is what the neighbour sends to it, both joined
+  -- list by list: whole, once, in order. A line that was refused counts as one that puts them there.
   pub handled_is_sent : AllByRecursion (λ q.
       PutsNoBytes p (seat_in plan q).lines
       → joined_rpcs (handled life.trace q) ≡ joined_rpcs (sent (trace_of lives q) p)) (neighbours plan p)
-  -- no identifier is delivered twice while it counts as seen
+  -- Two entries that deliver one identifier, on whatever topics, are at least `seen_ttl` apart.
   pub apart : DeliversApart (seen_ttl (peer_in plan p)) life.trace
 
 -- the lives of all peers of a plan, by their numbers

@@ -8,7 +8,7 @@ use std::alloc::{AllocError, AllocFailed};
 /// Why a run gives no report.
 #[derive(Clone, Copy, Debug, PartialEq, Eq, thiserror::Error)]
 pub enum NetFault {
-    /// There was no memory: for what this peer is given, or for what belongs to no peer.
+    /// Out of memory: for what this peer is given, or, where there is none, for what belongs to no peer.
     #[error("there was no memory")]
     NoMemory(Option<PeerNo>),
     /// A worker thread could not be started, or could not wait.

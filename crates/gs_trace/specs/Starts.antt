@@ -45,7 +45,7 @@ pub record StandsAt (plan : Plan) (r : ℕ) (x : PeerNo × Finished) (f : Follow
   pub peer : view.peer ≡ peer_in plan x.0
   pub left : r ≤ plan.rounds → left_in view ≡ after_ends r (seen_by plan x)
 
--- the readers of the peers: the first ones, so many, at the beginning of the round after, and the others at that of the round
+-- the readers of the peers: a number of first ones at the beginning of the round after, and the others at that of the round
 abbrev pub StandAt : Plan → ℕ → ℕ → List (PeerNo × Finished) → List Follower → Type 0
 StandAt plan r n [] [] = Unit {0}
 StandAt plan r n [] (f ∷ fs) = ⊥
