@@ -101,6 +101,28 @@ def sweeps(row):
                 yield Sweep(what, how, step)
 
 
+def calls_of(sweep):
+    """Which calls a sweep has fail, as the first table of refused_runs.md says it."""
+    return f"{sweep.what}, in pieces of {sweep.step} bytes" if sweep.step else sweep.what
+
+
+def calls_on(page):
+    """How many calls a run makes, by the first table of a page: by the run's name and the calls. Empty cells are left out."""
+    from_table = itertools.dropwhile(lambda line: not line.startswith("|"), page.splitlines())
+    table = itertools.takewhile(lambda line: line.startswith("|"), from_table)
+    head, _, *lines = [[cell.strip() for cell in line.strip().strip("|").split("|")] for line in table]
+    return {(name, calls): int(cell) for calls, *cells in lines for name, cell in zip(head[1:], cells) if cell}
+
+
+def count_differs(row, sweep, count, counted):
+    """What a line says of a run whose calls are more or fewer than were counted before. With several workers the numbers of
+    two runs may differ."""
+    before = counted.get((row.name, calls_of(sweep)), count)
+    if row.workers > 1 or before == count:
+        return ""
+    return f"{count} calls, and {before} in tools/lib/refused_runs.md"
+
+
 def name_of(sweep):
     """What becomes of a call, as a line says it."""
     how = {
