@@ -1,9 +1,12 @@
-"""Files of code (.rt): the contracts of functions, and the types that definitions speak of. For tools/reading_list."""
+"""Files of code (.rt): the contracts of functions, and the types that definitions speak of. For tools/reading_list and
+tools/contracts."""
 import re
 
 from antt_files import NAME, NUMBER, BUILT_IN, Definition, Unreadable, Walk, imports_of, tokens_of
 
 CAPITAL = re.compile(r"\b[A-Z]\w*")
+# What comes next in a signature: a clause with its label, a parameter for clauses, a type in brackets, the body, or the end.
+CLAUSE = re.compile(r"\b(requires|ensures|ghost)\b([^{]*)|\[[^\[\]]*\]|[{;]")
 
 
 class Code:
@@ -103,19 +106,25 @@ def members_of(code, inside):
 
 
 class Contract:
-    """A public function's signature with its clauses. `types` has the types and traits that the signature names."""
+    """A function's signature with its clauses. The function is that at a line, or the public one of that name. `types` has
+    the types and traits that the signature names, and `ensures` the labels of promises: `ensures` where there is none."""
 
-    def __init__(self, code, name):
+    def __init__(self, code, name, start=None):
         self.code, self.name, self.place = code, name, (code.path, f"fn {name}")
-        self.start = code.line_of(rf" *pub fn {name}\b", f"pub fn {name}")
+        self.start = code.line_of(rf" *pub fn {name}\b", f"pub fn {name}") if start is None else start
         text = "\n".join(code.lines[self.start:])
-        place, self.clauses = text.index("("), []
+        place, self.clauses, self.ensures = text.index("("), [], []
         while True:
-            found = re.compile(r"\b(?:requires|ensures)\b[^{]*|[{;]").search(text, place)
+            found = CLAUSE.search(text, place)
             if found.group(0) in "{;":
                 break
-            place = closing(text, found.end())
-            self.clauses.append(text[found.end() + 1:place])
+            kind, label = found.groups()
+            place = closing(text, found.end()) if kind else found.end()
+            if kind in ("requires", "ensures"):
+                self.clauses.append(text[found.end() + 1:place])
+            if kind == "ensures":
+                self.ensures.append(label.strip() or kind)
+        self.is_empty = text.startswith("{}", found.start())
         head = text[:found.start()].rstrip()
         signature = re.split(r"\b(?:requires|ensures)\b", head)[0]
         self.types = set(CAPITAL.findall(signature))
