@@ -1,5 +1,5 @@
 """What a page of a run has of its messages: who published each, who could get it, and in which round each peer had it. These
-are the messages, the subscribers and those reached of docs/FORMATS.md ("How far messages come")."""
+are the messages, the subscribers and those reached of docs/OUTPUTS.md ("How far messages come")."""
 import functools
 import tomllib
 

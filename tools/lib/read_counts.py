@@ -1,4 +1,4 @@
-"""Counts what happened in a run by the lines of bin/gossip_trace and the words of docs/FORMATS.md ("Peers" and after it):
+"""Counts what happened in a run by the lines of bin/gossip_trace and the words of docs/OUTPUTS.md ("Peers" and after it):
 for each peer, link, topic and round."""
 import collections
 

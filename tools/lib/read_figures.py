@@ -1,5 +1,5 @@
 """Works out the sheets of bin/gossip_stats from the lines of bin/gossip_trace and bin/gossip_scores, from the report and from
-the scenario, by the words of docs/FORMATS.md, and compares them with what it prints as JSON."""
+the scenario, by the words of docs/OUTPUTS.md, and compares them with what it prints as JSON."""
 import collections
 import itertools
 import json

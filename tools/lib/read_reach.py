@@ -1,4 +1,4 @@
-"""Works out how far messages came from the lines of bin/gossip_trace and from the scenario, by the words of docs/FORMATS.md
+"""Works out how far messages came from the lines of bin/gossip_trace and from the scenario, by the words of docs/OUTPUTS.md
 ("How far messages come")."""
 import tomllib
 
