@@ -4,6 +4,7 @@ import re
 from dataclasses import dataclass, field
 
 from edits import Edit, Unfit, edited, items_of
+from ledger import AT_ONCE
 from one_by_one import fitting, is_proved, settle_by_module
 from verdicts import say
 
@@ -129,10 +130,10 @@ class Trial:
     def count(self, edit, is_refused):
         if is_refused:
             say(f"{edit.label}: refused")
-            self.verdicts.refuse(edit)
+            self.verdicts.refuse(edit, AT_ONCE)
         else:
             say(f"{edit.label}: NOT REFUSED")
-            self.verdicts.let_through(edit)
+            self.verdicts.let_through(edit, AT_ONCE)
 
 
 def try_at_once(tree, verdicts, crate, edits, jobs):

@@ -2,6 +2,7 @@
 import re
 
 from edits import Unfit, edited
+from ledger import BY_CRATE, BY_MODULE
 from verdicts import say
 
 COUNTS = re.compile(r"^only=(\d+) proved=(\d+)$", re.MULTILINE)
@@ -29,9 +30,9 @@ def is_settled_by_module(tree, verdicts, edit):
     wanted, proved = map(int, (COUNTS.findall(said) or [(0, 0)])[-1])
     if proved < wanted:
         say(f"{edit.label}: refused by its module")
-        verdicts.refuse(edit, bool(NAMES_GONE.search(said)))
+        verdicts.refuse(edit, BY_MODULE, bool(NAMES_GONE.search(said)))
     elif edit.is_of_tests and wanted:
-        verdicts.let_through(edit)
+        verdicts.let_through(edit, BY_MODULE)
     elif edit.is_of_tests:
         verdicts.leave(edit, "the check of its module says nothing of it")
     return proved < wanted or edit.is_of_tests
@@ -53,9 +54,9 @@ def judge(verdicts, edit, said):
     told = [line[len(label) :] for line in said.split("\n") if line.startswith(label)]
     verdict = told[-1] if told else "rt said nothing of it"
     if verdict.startswith(REFUSED):
-        verdicts.refuse(edit, BY_NAMES in verdict)
+        verdicts.refuse(edit, BY_CRATE, BY_NAMES in verdict)
     elif verdict.startswith(MISSED):
-        verdicts.let_through(edit)
+        verdicts.let_through(edit, BY_CRATE)
     else:
         verdicts.leave(edit, verdict.removeprefix("NOT TRIED: "))
 

@@ -1,6 +1,6 @@
 # shellcheck shell=bash disable=SC2154
-# Tries wrong bodies of a crate by a stand-in for rt. tools/check_scripts reads this file. It sets `top` to the repository's
-# folder and `room` to one for files, and has `expect` and `expect_like`.
+# Tries wrong bodies of a crate by a stand-in for rt, and notes them for the page that tools/status makes. tools/check_scripts
+# reads this file. It sets `top` to the repository's folder and `room` to one for files, and has `expect` and `expect_like`.
 
 # A stand-in for rt: to it a body is wrong that has the word `wrong`. It says so as rt does.
 make_judge() {
@@ -38,7 +38,9 @@ put_body() {
 make_bodies() {
   local place=$room/bodies/crates/one
   mkdir -p "$place"/{src,specs,mutants} "$room/bodies/crates/two/src"
+  mkdir -p "$place/must-fail" "$room/bodies/docs"
   cp -r "$top/bin" "$top/tools" "$room/bodies"
+  : >"$room/bodies/tools/lib/ledger.txt"
   printf 'one:\ntwo: one\n' >"$room/bodies/crates.txt"
   printf 'fn first() { 1 }\nfn second() { 2 }\n' >"$place/src/lib.rt"
   printf 'pub fn third() {\n    3\n}\npub fn fourth() { 4 }\n' >"$place/src/part.rt"
@@ -96,6 +98,75 @@ mutants: one/wrong_size.edit: refused
 $counted" '' bodies --at-once one
 }
 
+# What is noted of those that are tried. A second try takes the place of the first.
+check_notes() {
+  local ledger=$room/bodies/tools/lib/ledger.txt
+  expect_like 'wrong bodies that are noted' 1 '*5 refused, 2 not refused' '' bodies --note --at-once one
+  expect_like 'a wrong body that is noted again' 0 '*1 refused, 0 not refused' '' bodies --note --narrow --only third one
+  expect_like 'what is noted' 0 '# *
+one/same_second.edit ???????????????? none at-once let-through
+one/waiting_fourth.edit ???????????????? none at-once let-through
+one/wrong_again.edit ???????????????? none at-once refused
+one/wrong_first.edit ???????????????? none at-once refused
+one/wrong_size.edit ???????????????? none at-once refused
+one/wrong_test.edit ???????????????? none module refused
+one/wrong_third.edit ???????????????? none module refused' '' cat "$ledger"
+  sed -i 's/none module/none by-name/' "$ledger"
+  expect_like 'a ledger that can not be read' 2 '' 'mutants: tools/lib/ledger.txt: this is no note*: one/wrong_test*' \
+    bodies --note one
+  sed -i 's/by-name/module/; /wrong_test/d' "$ledger"
+}
+
+# What a gate prints, up to a line of a check.
+gate_output() {
+  sed "/$1/q" <<'OUTPUT'
+the gate of 12345678, with a kit
+7 apply, 0 do not
+0 faults
+rt: one proved
+9 passed, 0 failed
+ok: a case: 0
+8 passed, 0 failed
+7 passed, 0 failed
+6 passed, 0 failed
+5 scenarios by both engines, 5 of them reported, 0 differ
+4 traces, 44 lines, 444 figures, 0 differ
+3 pages, 33 rounds, 0 differ
+2 right, 0 wrong, in 22 seconds
+1 refused, 0 not refused
+OUTPUT
+  echo 'the gate took 1 minutes and 2 seconds, 3 tasks at once'
+}
+
+status() {
+  "$room/bodies/tools/status" "$@"
+}
+
+# The page on the last gate and on what is noted: of a text that has changed only in comments, and of one that has changed.
+check_status() {
+  local lines='`rt ci`|9 passed, 0 failed|' part=$room/bodies/crates/one/src/part.rt page=$room/bodies/docs/STATUS.md
+  gate_output none >"$room/gate"
+  expect 'a gate that is kept' 0 '' '' status --gate "$room/gate"
+  expect_like 'the page on it' 0 "*12345678*a kit. It took 1 minutes and 2 seconds, 3 tasks*|$lines
+|\`tools/check_statuses\`|8 passed, 0 failed|*|\`tools/mutants --sample\`|1 refused, 0 not refused|*
+Let through: one/same_second.edit, one/waiting_fourth.edit.*
+|\`one\`|7|6|0|1|
+|all|7|6|0|1|" '' cat "$page"
+  echo '    // three' >>"$part"
+  expect 'the page where comments have changed' 0 "$(<"$page")" '' status
+  sed -i 's/fourth() {/fourth() -> u8 {/' "$part"
+  expect_like 'the page where code has changed' 0 '*|7|4|2|1|*' '' status
+  sed -i 's/fourth() -> u8 {/fourth() {/; /three$/d' "$part"
+  gate_output '^8 passed' >"$room/gate"
+  expect 'a gate that ended early' 0 '' '' status --gate "$room/gate"
+  expect_like 'the page on that' 0 "*|$lines*|8 passed*
+|\`tools/check_scripts\`|not seen|*" '' status
+  head -1 "$room/gate" >"$room/said"
+  expect 'a gate that goes on' 1 '' "tools/status: $room/said: it has no line 'the gate took ..', so it has not ended" \
+    status --gate "$room/said"
+  expect 'a page of two words' 64 '' 'usage: tools/status [--write | --gate LOG | --help]' status --write --gate
+}
+
 # Those that do not apply, and those of what has changed.
 check_fit() {
   local git=(git -C "$room/bodies" -c user.name=a -c user.email=a)
@@ -141,6 +212,7 @@ check_words() {
   refused_words 'a pattern that is missing' 'argument --only: expected one argument; --help says more' one --only
   refused_words 'two ways at once' 'argument --at-once: not allowed with argument --narrow; --help says more' --narrow --at-once
   refused_words 'a word for no sample' '--by goes with --sample; --help says more' --by a one
+  refused_words 'a note of nothing' '--note goes with edits that are tried, not with --applies; --help says more' --note --applies
   refused_words 'no commit' "git can't compare with none: fatal: bad revision 'none'" --since none one
   expect_like 'help on wrong bodies' 0 'Tries wrong bodies*Status*' '' bodies --help
 }
@@ -149,6 +221,8 @@ check_wrong_bodies() {
   make_judge
   make_bodies
   check_ways
+  check_notes
+  check_status
   check_fit
   check_words
 }
