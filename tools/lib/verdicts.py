@@ -13,7 +13,7 @@ def tell(heading, lines):
 
 
 class Verdicts:
-    """Counts those that were refused, and keeps what is to be said of others."""
+    """Counts those that were refused, and keeps what is to be said about others."""
 
     def __init__(self):
         self.refused = 0
