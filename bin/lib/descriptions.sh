@@ -1,5 +1,5 @@
 # shellcheck shell=bash disable=SC2154
-# Descriptions in the place of scenarios. bin/lib/runs.sh reads this file, and sets `top` to the repository's folder.
+# Descriptions instead of scenarios. bin/lib/runs.sh reads this file, and sets `top` to the repository's folder.
 
 # Whether a file has a header that only descriptions have, of those that are given.
 has_header() {
@@ -11,7 +11,7 @@ is_description() {
   [ "$1" != - ] && [ -f "$1" ] && has_header "$1"
 }
 
-# Says of a refused input which is no file that it looks like a description. A file that is one was expanded before.
+# Says that a refused input which is no file looks like a description. A file that is one was expanded before.
 say_unexpanded() {
   local why='this looks like a description, and from standard input or a pipe none is read'
   if ! is_description "$1" && has_header "$room/input"; then

@@ -137,6 +137,6 @@ def alone(scenario):
 
 
 def doubts(scenario):
-    """What is said of a scenario, each with the path to which it points, in the order of the tables."""
+    """The warnings about a scenario, each with the path to which it points, in the order of the tables."""
     for part in (thresholds, small, windows, addresses, alone, publications):
         yield from part(scenario)

@@ -1,4 +1,4 @@
-"""What is said of a refused key beside the words of gossip_check: what go-libp2p's names are called here, in which table a
+"""What is added about a refused key to the words of gossip_check: what go-libp2p's names are called here, in which table a
 key stands, and what a number is in millionths."""
 from decimal import ROUND_HALF_EVEN, Decimal, InvalidOperation
 
@@ -18,7 +18,7 @@ def plain(name):
 
 
 def among(names, wanted):
-    """Of some names the one that is wanted, but for capitals; None where there is none."""
+    """Of some names the one that is wanted, except for capitals; None where there is none."""
     return next((it for it in names if plain(it) == plain(wanted)), None)
 
 
@@ -50,7 +50,7 @@ def own_hint(path):
 
 
 def unknown_hint(path):
-    """What is said of an unknown key."""
+    """What is said about an unknown key."""
     if len(path) == 1 and path[0] in GROUPS:
         return 'go-libp2p\'s names go into a .json file, which a description takes: params_from = "FILE.json"'
     return own_hint(path) or go_hint(path[-1])

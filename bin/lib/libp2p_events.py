@@ -20,7 +20,7 @@ TYPES = {
     "graft": 11,
     "prune": 12,
 }
-# What go-libp2p-pubsub says of a message that is not passed on.
+# What go-libp2p-pubsub says about a message that is not passed on.
 REASONS = {"reject": "validation failed", "ignore": "validation ignored"}
 SIGNED, OF_AN_AUTHOR = "unexpected signature", "unexpected auth info"
 PROTOCOL = "/meshsub/1.1.0"
@@ -75,7 +75,7 @@ def control_of(control):
 
 
 def meta_of(rpc):
-    """What `RPCMeta` says of an RPC."""
+    """What `RPCMeta` says about an RPC."""
     found = {
         "messages": message_ids(rpc["publish"]),
         "subscription": [
@@ -184,7 +184,7 @@ class Peer:
 
 
 def what_is_forbidden(message):
-    """What a message carries that StrictNoSign forbids, as go-libp2p-pubsub says it; None where it has nothing of it."""
+    """What a message carries that StrictNoSign forbids, as go-libp2p-pubsub says it; None where it carries none."""
     if message["signature"] is not None:
         return SIGNED
     return OF_AN_AUTHOR if any(message[it] is not None for it in ("from", "seqno", "key")) else None

@@ -25,7 +25,7 @@ from scenario.fields import whole_hint
 from spots import Spots, is_at, line_in, one_line, value_at
 
 MOST_WARNINGS, MOST_MORE = 50, 20
-LONGEST_WHY = 300  # characters of what is said of another fault
+LONGEST_WHY = 300  # characters of what is said about another fault
 LISTS = "topic", "peer", "dial", "app", "explicit", "do"
 PLACE = re.compile(rf"(params|({'|'.join(LISTS)})\[([0-9]+)\])(?:\.(.*))?")
 # What makes an element the same as an earlier one.
@@ -95,7 +95,7 @@ class Scenario:
         return same[0] == same[1] or (not is_moved and all(isinstance(it, dict) for it in same))
 
     def line_of(self, path):
-        """In which line a path stands, and what stands there, as `line 3: d = 6`; None where that is not sure."""
+        """In which line a path stands, and what stands there, such as `line 3: d = 6`; None where that is not sure."""
         if not self.is_changed or self.is_as_given(path):
             found, whose = self.given.line_at(path), ""
             if self.description:
@@ -173,7 +173,7 @@ def lines_of(scenario, number, path, words):
 
 
 def hint_of(scenario, number, path):
-    """What else is said of a refused key; None where there is nothing."""
+    """What else is said about a refused key; None where there is nothing."""
     if number == 27:
         return unknown_hint(path)
     document = scenario.checked.document
@@ -214,7 +214,7 @@ def toml_lines(scenario, words):
 
 
 def of_refusal(scenario, answer):
-    """What is said beside an answer."""
+    """What is said in addition to an answer."""
     first, _, words = answer.partition("\n")
     found = re.fullmatch(r"([0-9]+)(?: (.+))?", first)
     if not found:

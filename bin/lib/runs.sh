@@ -13,16 +13,16 @@
 # shellcheck source=descriptions.sh
 . "$top/bin/lib/descriptions.sh"
 
-# What --help says of these options and of the statuses. The word says what is printed with status 0.
+# What --help says about these options and about the statuses. The word says what is printed with status 0.
 print_options() {
   cat <<END
-  --workers N       runs the scenario with N worker threads in place of its own,
+  --workers N       runs the scenario with N worker threads instead of its own,
   --capacity N      with links of N places,
   --seed N          with this seed,
-  --set KEY=VALUE   with another value of any key, written as in TOML, as params.flood_publish=false;
+  --set KEY=VALUE   with another value of any key, written as in TOML, such as params.flood_publish=false;
                     these four can be repeated
-  --until ROUND     up to this round, or to a time, as "150 s": the scenario is cut there, and later lines are left out
-  --words           says of a refused scenario why and in which line, in words on standard error, as on a terminal
+  --until ROUND     up to this round, or to a time, such as "150 s": the scenario is cut there, and later lines are left out
+  --words           says why a scenario is refused, and in which line, in words on standard error, as on a terminal
   --proved          runs only proved programs
   --help, -h        prints this
   --version, -V     prints the commit and the Rattle kit
@@ -31,8 +31,8 @@ print_options() {
 A program that is not proved yet is compiled, with checks at run time, in about a minute, once for its sources. Standard
 error says so. bin/build proves and builds the programs; bin/build --unproved compiles them all at once.
 
-Status: 0 $1; 1 the scenario is refused, or can't be changed so; 2 there
-was no memory, or no thread; 3 input or output failed; 4 the program is not built, with --proved, or can't be
+Status: 0 $1; 1 the scenario is refused, or can't be changed so; 2 it ran
+out of memory, or no thread started; 3 input or output failed; 4 the program is not built, with --proved, or can't be
 compiled; 5 an unproved run met a fault; 64 the arguments are wrong; 66 FILE can't be read; 128 and a signal's number
 where one ended it.
 END
@@ -66,7 +66,7 @@ change() {
 
 cut_at() {
   local when='^([1-9][0-9]{0,5}|[0-9]{1,9}(\.[0-9]{1,9})? ?(ms|s|min|h))$'
-  [[ $1 =~ $when ]] || stop 64 '--until takes a round, from 1 to 999999, or a time, as "150 s"; --help says more'
+  [[ $1 =~ $when ]] || stop 64 '--until takes a round, from 1 to 999999, or a time, such as "150 s"; --help says more'
   until=$1
 }
 
@@ -205,7 +205,7 @@ make_ready() {
   prepare_scenario
 }
 
-# Says of a refused scenario, after the program, what more is known.
+# Says about a refused scenario, after the program, what more is known.
 explain_refusal() {
   [ -z "$has_words" ] || print_words
   say_unexpanded "${files[0]--}"

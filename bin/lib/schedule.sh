@@ -210,7 +210,7 @@ end_all() {
   rm -rf "$room"
 }
 
-# Makes the room anew. What a run that was killed kept goes to its crate first. The sources are read once, so a change that
+# Makes the room again. What a run that was killed kept goes to its crate first. The sources are read once, so a change that
 # is made meanwhile leaves the program older than it.
 open_room() {
   local kept name part

@@ -11,7 +11,7 @@ MOST_RUNS = 1_000_000
 MOST_GROUPS = 16
 GROUP = re.compile("([a-zA-Z0-9_-]{1,32})=.*", re.DOTALL)
 Options = namedtuple(
-    "Options", "settings columns wishes peer jobs folder until over is_table has_header is_list is_strict file"
+    "Options", "settings columns figure_options peer jobs folder until over is_table has_header is_list is_strict file"
 )
 
 
@@ -95,7 +95,7 @@ class Arguments:
         """Those that are asked for. None where all are."""
         return self.values["--columns"].split(",") if "--columns" in self.values else None
 
-    def wishes(self):
+    def figure_options(self):
         """The options of gossip_stats. The messages of a peer are those that it published."""
         if "--peer" in self.values and "--by" in self.values:
             refuse("--peer NAME has the messages that NAME published, so there is no place for --by")
@@ -142,7 +142,7 @@ class Arguments:
         return Options(
             self.settings,
             self.columns(),
-            self.wishes(),
+            self.figure_options(),
             self.values.get("--peer"),
             self.jobs(),
             self.values.get("--into"),

@@ -24,7 +24,7 @@ OF_RUNS = *HOW_ENDED, "proved"
 # of a message and a subscriber missed each other.
 SHEETS = "messages", "within", "parts", "peers"
 WHOLE = "(all)"
-# The columns that these sheets give, but for the last one.
+# The columns that these sheets give, except for the last one.
 OF_MESSAGES = "messages pairs reached missed first_round median_round round_90 round_99 last_round".split()
 
 # A scenario in which nothing happens: its figures show which columns there are.
@@ -38,7 +38,7 @@ topic = [{ name = "t" }]
 peer = [{ name = "a" }]
 """
 
-# The column of the seeds by which a description is made anew.
+# The column of the seeds with which a description is expanded.
 NETWORK = "network"
 SCENARIO = os.path.join(os.path.dirname(os.path.dirname(os.path.realpath(__file__))), "scenario")
 
@@ -198,8 +198,8 @@ class Sweep:
         self.programs, self.scenario, self.peer, self.folder = programs, scenario, options.peer, folder
         self.proved, self.until = "yes" if is_proved else "no", options.until
         self.settings, self.columns, self.header = list(options.settings.values), (), []
-        self.figures = [programs["gossip_stats"], "--json", *options.wishes]
-        self.left_out = ", or --of leaves it out" if "--of" in options.wishes else ""
+        self.figures = [programs["gossip_stats"], "--json", *options.figure_options]
+        self.left_out = ", or --of leaves it out" if "--of" in options.figure_options else ""
         self.lock, self.live, self.is_stopped = threading.Lock(), set(), False
         self.file, self.checker = options.file, functools.lru_cache(None)(checker)
         self.scenario_of = functools.lru_cache(16)(self.made_anew)
@@ -207,7 +207,7 @@ class Sweep:
         self.source = []
         if folder:
             self.source = [hash_of(scenario), *map(hash_in, programs.values()), options.peer, self.until, self.proved]
-            self.source += options.wishes
+            self.source += options.figure_options
         if folder and NETWORK in options.settings.values:
             self.source.append(hash_in(options.file))
 
@@ -247,7 +247,7 @@ class Sweep:
         return [cells.get(it, "") for it in self.columns]
 
     def ended(self, settings):
-        """How a run ends: gossip_edit gives the scenario that gossip_stats runs, but for what --until leaves out."""
+        """How a run ends: gossip_edit gives the scenario that gossip_stats runs, except for what --until leaves out."""
         network = [it.partition("=")[2] for it in settings if it.startswith(f"{NETWORK}=")]
         settings = [it for it in settings if not it.startswith(f"{NETWORK}=")]
         end = self.scenario_of(network[0]) if network else End(0, self.scenario, "")
@@ -265,7 +265,7 @@ class Sweep:
         return self.call([SCENARIO, "--seed", seed, "--", self.file], b"")
 
     def explained(self, end, scenario):
-        """A run that was refused by a number alone gets the words of gossip_check, which have the key."""
+        """A run that was refused only by a number gets the words of gossip_check, which have the key."""
         if end.status != 1 or not re.fullmatch("scenario refused: [0-9]+", end.message):
             return end
         with self.explaining:

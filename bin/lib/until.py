@@ -3,7 +3,7 @@ as it is otherwise, with its comments.
 
 usage: until.py ROUND|TIME <scenario >cut
 
-TIME has a unit, as "150 s", and is a whole number of rounds.
+TIME has a unit, such as "150 s", and is a whole number of rounds.
 
 Status: 0; 1 `edit refused: ` and why; 3 `input failed` or `output failed`.
 """
@@ -15,7 +15,7 @@ from scenario.fields import milliseconds_of
 
 # What --until takes.
 WHEN = re.compile(r"[1-9][0-9]{0,5}|[0-9]{1,9}(?:\.[0-9]{1,9})? ?(?:ms|s|min|h)")
-TAKES = '--until takes a round, from 1 to 999999, or a time, as "150 s"'
+TAKES = '--until takes a round, from 1 to 999999, or a time, such as "150 s"'
 
 # What may not be cut within: comments and strings. Then what opens and closes, what ends a line, and all else.
 TOKEN = re.compile(

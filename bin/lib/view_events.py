@@ -18,7 +18,7 @@ KIND = {word: number for number, word in enumerate(KINDS)}
 FATE = {word: number for number, word in enumerate(FATES)}
 EFFECT = {word: number for number, word in enumerate(EFFECTS)}
 PARTS = {"subscription", "message", "ihave", "iwant", "graft", "prune"}
-# The events of which a page has nothing to say where nothing came of them.
+# The events that a page leaves out where nothing followed from them.
 SILENT = {"mesh", "fanout", "gossip", "heartbeat_end", "fanout_end"}
 SIGNED = "from", "seqno", "signature", "key"
 # How many digits of a payload a page has: those of 24 bytes.
@@ -83,7 +83,7 @@ class Events:
         return [[id[:12], *self.payloads.get(number, ["", -1])] for number, id in enumerate(self.ids.texts)]
 
     def event_of(self, line, fate=None, is_so=False):
-        """A line as a list; None where there is nothing to say of it. Of a message it is given what became of it; of a
+        """A line as a list; None where there is nothing to say about it. Of a message it is given what became of it; of a
         GRAFT, whether its sender is in the mesh after it; of an RPC, whether the peer had shut down before."""
         word = line["event"]
         who, topic, item, count = getattr(self, f"of_{word}", self.of_other)(line)
@@ -132,8 +132,8 @@ class Events:
         return -1 if who is None else self.peer(who), self.topic(line["topic"]) if "topic" in line else -1, -1, -1
 
     def effects_of(self, line):
-        """What came of an event: what was remembered, sent and delivered, and what was not done. Of a message its fate says
-        the rest."""
+        """What followed from an event: what was remembered, sent and delivered, and what was not done. Of a message its fate
+        says the rest."""
         if line["event"] == "message" and not line["sent"]:
             return []
         effects = [it for mark in line.get("marks", ()) for it in self.of_mark(mark)]
@@ -162,17 +162,17 @@ class Events:
             yield [EFFECT[word], self.peer(mark["peer"]), self.message(mark["id"], None)]
 
     def of_sends(self, sent):
-        """[how many, whom..], for each kind of what was sent. What an RPC has of one kind is counted for each neighbour."""
+        """[how many, receivers..], for each kind of what was sent. Parts of an RPC are counted for each neighbour."""
         found = {}
         for it in sent:
             for word, count in counts_of(it["rpc"]):
-                many, whom = found.setdefault(word, [0, []])
-                found[word] = [many + count, whom]
-                whom.append(self.peer(it["to"]))
-        return [[EFFECT[word], many, *whom] for word, (many, whom) in found.items()]
+                many, receivers = found.setdefault(word, [0, []])
+                found[word] = [many + count, receivers]
+                receivers.append(self.peer(it["to"]))
+        return [[EFFECT[word], many, *receivers] for word, (many, receivers) in found.items()]
 
     def of_unheard(self, rpc):
-        """[topic, how many] of the messages in an RPC of which no part was handled."""
+        """[topic, how many] of the messages in an RPC that was not handled."""
         counts = {}
         for it in rpc["publish"]:
             topic = self.topic(it["topic"])

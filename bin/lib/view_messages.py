@@ -1,4 +1,4 @@
-"""What a page of a run has of its messages: who published each, who could get it, and in which round each peer had it. These
+"""What a page of a run shows about its messages: who published each, who could get it, and in which round each peer had it. These
 are the messages, the subscribers and those reached of docs/OUTPUTS.md ("How far messages come")."""
 import functools
 import tomllib
@@ -7,7 +7,7 @@ SEEN_TTL_MS = 120_000
 
 
 class Rules:
-    """What a scenario says of messages: for how long one is remembered, and which payloads validation takes."""
+    """What a scenario says about messages: for how long one is remembered, and which payloads validation takes."""
 
     def __init__(self, file):
         with open(file, "rb") as it:
@@ -33,7 +33,7 @@ def rules_of(file):
 
 
 class Messages:
-    """The publications and deliveries of a run. What is published on a topic at one moment is one message, by whomever."""
+    """The publications and deliveries of a run. What is published on a topic at one moment is one message, whoever publishes it."""
 
     def __init__(self, rules):
         self.rules = rules
@@ -62,7 +62,7 @@ class Messages:
         return found
 
     def rows(self, first, last, could_get):
-        """Each message of these rounds: the topic and the identifier, and what a page has of it: the round, the verdict, the
+        """Each message of these rounds: the topic and the identifier, and what a page shows about it: the round, the verdict, the
         publishers, the subscribers, and in which round each peer had it. They are by moment, then by their first
         publisher."""
         could_get = functools.lru_cache(None)(could_get)

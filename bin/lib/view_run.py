@@ -1,4 +1,4 @@
-"""What a page of a run has of its trace: who was in whose mesh and on which topic, figures of each round, messages, and
+"""What a page of a run shows about its trace: who was in whose mesh and on which topic, figures of each round, messages, and
 events."""
 import json
 import re
@@ -8,9 +8,9 @@ from view_messages import Messages
 
 # How many events a page has at most.
 MOST_EVENTS = 1_000_000
-# What each line begins with, but for the first.
+# What each line begins with, except the first.
 BEGINNING = re.compile(r'\{"round":(\d+),"at":\d+,"peer":("(?:[^"\\]|\\.)*"|\d+),"event":"(\w+)"')
-# What stands in the lines of events of which nothing came, in the order of a trace's keys. Some events count even so.
+# What stands in the lines of events from which nothing followed, in the order of a trace's keys. Some events count even so.
 NOTHING_CAME = '"sent":[],"delivered":[],"promise":null,"marks":[]'
 SOMETHING_FELL = '"fell_away":[{'
 COUNTING = "message", "subscribe", "unsubscribe", "gone", "fault", "hang_up"
@@ -126,7 +126,7 @@ class Run:
                 raise TooLarge(f"the run has more than {MOST_EVENTS} events, too many to look at")
 
     def is_of_only(self, round, line):
-        """Whether a message came of the one peer that is looked at: what it sent is seen by who heard it."""
+        """Whether a message came from the one peer that is looked at: what it sent is seen by who heard it."""
         return self.first <= round <= self.last and line["event"] == "message" and line["from"] == self.only
 
     def remember(self, round, peer, line):
@@ -178,7 +178,7 @@ class Run:
                 row[LARGEST] = size if row[LARGEST] is None else max(row[LARGEST], size)
 
     def publications(self):
-        """What a page has of each message, and the numbers of its topic and its identifier before that. A page of one peer
+        """What a page shows about each message, and the numbers of its topic and its identifier before that. A page of one peer
         has none, since it does not show all deliveries; and neither has one of a scenario that can't be read."""
         if not self.messages:
             return None
@@ -193,7 +193,7 @@ class Run:
         return sorted(on & {it[0] for it in pairs if self.lost.open.get(it, round) >= round})
 
     def data(self):
-        """What a page has of the run."""
+        """What a page shows about the run."""
         end = self.last_round + 1
         rounds = range(self.first, self.last + 1)
         return {

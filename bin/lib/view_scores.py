@@ -1,4 +1,4 @@
-"""What a page of a run has of the lines of gossip_scores: each score that changed, with its parts."""
+"""What a page of a run shows about the lines of gossip_scores: each score that changed, with its parts."""
 import json
 
 THRESHOLDS = "gossip_threshold", "publish_threshold", "graylist_threshold"

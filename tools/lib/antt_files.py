@@ -156,7 +156,7 @@ def tokens_of(lines):
 
 
 class Walk:
-    """Which names tokens use that nothing around them binds. `is_constant` says of a word in a pattern whether it is a
+    """Which names tokens use that nothing around them binds. `is_constant` says whether a word in a pattern is a
     constructor."""
 
     def __init__(self, is_constant):

@@ -50,7 +50,7 @@ check_book() {
   ln -s "$top/bin" "$top/examples" "$top/crates" "$room/book"
   split_page "$top/docs/BOOK.md" "$room/book"
   for file in "$room/book"/*.command; do
-    expect "what the book has of $(cat "$file")" 0 "$(cat "${file%.command}.output")" '' in_book "$(cat "$file")"
+    expect "what the book shows for $(cat "$file")" 0 "$(cat "${file%.command}.output")" '' in_book "$(cat "$file")"
   done
   cat "$room/book"/*.command >"$room/book/all"
   for file in "$top"/examples/book/*.toml "$top"/examples/book/descriptions/*.toml; do

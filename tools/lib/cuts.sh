@@ -19,7 +19,7 @@ check_cuts() {
   expect 'a cut of all of a list' 0 $'rounds = 1\ndo = [  ]' '' cut_at 1 'rounds = 9\ndo = [{at = 2}, {at = 3} ]\n'
   expect 'a cut of the end of a list' 0 $'rounds = 1\ndo = [{at = 1},]' '' cut_at 1 'rounds = 9\ndo = [{at = 1},{at = 3}]\n'
   expect 'a scenario that ends sooner' 0 $'rounds = 9\ndo = [{at = 8}]' '' cut_at 9 'rounds = 9\ndo = [{at = 8}]\n'
-  expect 'lines of which one has no round' 0 $'rounds = 1\n[[do]]\nat = "x"' '' cut_at 1 'rounds = 9\n[[do]]\nat = "x"\n'
+  expect 'lines, one without a round' 0 $'rounds = 1\n[[do]]\nat = "x"' '' cut_at 1 'rounds = 9\n[[do]]\nat = "x"\n'
   expect_like 'a cut of what is no TOML' 1 '' "edit refused: --until can't read the scenario as TOML 1.0: *" cut_at 1 'a = = 1\n'
   expect 'a cut at a time' 0 $'round_ms = 700\nrounds = 3' '' cut_at '2.1 s' 'round_ms = 700\nrounds = 9\n'
   expect 'a cut at no whole round' 1 '' \
@@ -29,7 +29,7 @@ check_cuts() {
     cut_at '0 s' 'round_ms = 700\nrounds = 900\n'
   expect 'a cut at a time without the length of a round' 0 'rounds = 9' '' cut_at 1s 'rounds = 9\n'
   expect 'a run that is cut' 64 '' \
-    'gossip_sim: --until takes a round, from 1 to 999999, or a time, as "150 s"; --help says more' with_options --until 0
+    'gossip_sim: --until takes a round, from 1 to 999999, or a time, such as "150 s"; --help says more' with_options --until 0
   expect 'an example that is cut at a time' 0 "$(sed 's/^rounds = 10\b/rounds = 2/' "$example")" '' with_options --until '200 ms'
   expect 'a cut of an example' 0 "$(sed 's/^rounds = 10\b/rounds = 2/' "$example")" '' with_options --until=2
 }

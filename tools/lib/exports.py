@@ -25,7 +25,7 @@ class Function:
 
 
 class Crate:
-    """The files of a crate, but for those of its tests. A library has the public functions that it exports. A program
+    """The files of a crate, except those of its tests. A library has the public functions that it exports. A program
     exports nothing, and has all that are called public."""
 
     def __init__(self, top, name):

@@ -67,8 +67,8 @@ def stamp_all(made_in, top, names):
 
 
 def take_libraries(made_in, top, names):
-    """Takes the libraries of these crates of a repository, where rt ci keeps them, or left them in the repository of which
-    this one is a copy. Returns the crates that are left, whose libraries rt makes anew."""
+    """Takes the libraries of these crates of a repository, where rt ci keeps them, or left them in the repository that
+    this one copies. Returns the crates that are left, whose libraries rt makes again."""
     try:
         if hasattr(code_of_rt(), "Kept"):
             return take_all(top, names)

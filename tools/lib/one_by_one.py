@@ -34,7 +34,7 @@ def is_settled_by_module(tree, verdicts, edit):
     elif edit.is_of_tests and wanted:
         verdicts.let_through(edit, BY_MODULE)
     elif edit.is_of_tests:
-        verdicts.leave(edit, "the check of its module says nothing of it")
+        verdicts.leave(edit, "the check of its module says nothing about it")
     return proved < wanted or edit.is_of_tests
 
 
@@ -49,10 +49,10 @@ def settle_by_module(tree, verdicts, edits, is_narrow):
 
 
 def judge(verdicts, edit, said):
-    """Counts an edit by what rt must-fail said of it. Of what it did not say nothing is known."""
+    """Counts an edit by what rt must-fail said about it. What that does not say is not known."""
     label = f"rt: must-fail {edit.label}: "
     told = [line[len(label) :] for line in said.split("\n") if line.startswith(label)]
-    verdict = told[-1] if told else "rt said nothing of it"
+    verdict = told[-1] if told else "rt said nothing about it"
     if verdict.startswith(REFUSED):
         verdicts.refuse(edit, BY_CRATE, BY_NAMES in verdict)
     elif verdict.startswith(MISSED):

@@ -3,7 +3,7 @@
 # It sets `top` to the repository's folder and `room` to one for files, and has `expect` and `expect_like`. For
 # `check_pointing` it has the tree of tools/lib/stand_ins.sh.
 
-# pointed ANSWER SCENARIO [CHANGE..]: what is said beside an answer. $given is what was changed, and $until where it was cut.
+# pointed ANSWER SCENARIO [CHANGE..]: what is said in addition to an answer. $given is what was changed, and $until where it was cut.
 pointed() {
   printf '%b' "$1" >"$room/answer"
   printf '%b' "$2" >"$room/scenario"
@@ -12,7 +12,7 @@ pointed() {
     "${until-}" "${@:3}"
 }
 
-# described ANSWER DESCRIPTION [CHANGE..]: the same of a description, and of the plain scenario that comes of it.
+# described ANSWER DESCRIPTION [CHANGE..]: the same of a description, and of its plain scenario.
 described() {
   local origin=$room/it.toml given
   printf '%b' "$2" >"$origin"
@@ -85,7 +85,7 @@ check_changed() {
   points 'a table that stays' 'params, line 1: [params]' '28 params.f\n' '[params]\ne = 5\nd = 7\n' params.d=7
   until=3
   points 'a line of a cut' "do[0].peer, line 3 $shown: peer = \"x\"" '30 do[0].peer\n' '[[do]]\nat = 1\npeer = "x"\n' do.0.peer=1
-  points 'a parameter beside a cut' 'params.e, line 3: e = 5' '29 params.e\n' '[params]\nd = 6\ne = 5\n'
+  points 'a parameter with a cut' 'params.e, line 3: e = 5' '29 params.e\n' '[params]\nd = 6\ne = 5\n'
 }
 
 # Lines of a description: of keys that are handed through, and of what gave lines of the plain scenario.

@@ -101,7 +101,7 @@ class Peer:
         return [Happened(whose, link, topic, line["round"], column, count) for whose, link, topic, column, count in found]
 
     def of(self, neighbour, topic, column, count=1):
-        """It came of a neighbour."""
+        """It came from a neighbour."""
         return self.name, (neighbour, self.name), topic, column, count
 
     def to(self, neighbour, topic, column, count=1):

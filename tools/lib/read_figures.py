@@ -11,9 +11,9 @@ from read_scores import shown
 SUBJECTS = "--rounds", "--topics", "--links"
 SHARES = {"median_round": 50, "round_90": 90, "last_round": 100}
 
-# What is asked for: PEERS or None, groups as (NAME, PEERS), and the sheet that stands in the place of the ordinary ones.
+# What is asked for: PEERS or None, groups as (NAME, PEERS), and the sheet instead of the ordinary ones.
 Wanted = collections.namedtuple("Wanted", "by of groups subject")
-# A score that is given: in which round and at which moment, who gives it to whom, and millionths.
+# A score that is given: in which round and at which moment, who gives it, who gets it, and millionths.
 Score = collections.namedtuple("Score", "round at by of amount")
 
 

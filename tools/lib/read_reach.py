@@ -34,7 +34,7 @@ def share_of(part, all_of_them):
 
 
 class Reach:
-    """What a trace tells of publications, deliveries, subscriptions and links."""
+    """What a trace tells about publications, deliveries, subscriptions and links."""
 
     def __init__(self, text, trace):
         plan = tomllib.loads(text)
@@ -81,7 +81,7 @@ class Reach:
         return min((it for it in times if it >= at + self.ttl), default=NEVER)
 
     def rounds_to(self, peer, at, payload, end):
-        """In how many rounds a payload came to a peer, which may have had it before. It must come before `end`."""
+        """In how many rounds a payload reached a peer, which may have had it before. It must come before `end`."""
         times = [it for it in self.delivered.get((peer, payload), ()) if at - self.ttl < it < end]
         return max(0, min(times) - at) // self.round_ms if times else NEVER
 
@@ -92,7 +92,7 @@ class Reach:
         return "accept"
 
     def messages(self, by, of):
-        """Each message: its key, who published it, and in how many rounds it came to each subscriber."""
+        """Each message: its key, who published it, and in how many rounds it reached each subscriber."""
         first, subscribers = chosen(self.names, by), chosen(self.names, of)
         keys = sorted(self.published, key=lambda it: (it[0], self.names.index(self.published[it][0])))
         for at, topic, payload in keys:

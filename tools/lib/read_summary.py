@@ -22,7 +22,7 @@ def millionths(text):
 
 
 def spans(crossings, is_below):
-    """From when to when a score was below a bound, by the moments at which it came to the other side."""
+    """From when to when a score was below a bound, by the moments at which it crossed the bound."""
     words = ", from {} ms", " to {} ms"
     return "".join(words[place % 2].format(at) for place, at in enumerate(crossings)) + " on" * is_below
 

@@ -69,7 +69,7 @@ class Trace:
         return [*self.deliveries(), *self.refusals(), *self.faults(), *self.meshes()]
 
     def libp2p_counts(self):
-        """How many events of a kind go-libp2p's tracer has, but for SEND_RPC and DUPLICATE_MESSAGE."""
+        """How many events of a kind go-libp2p's tracer has, except SEND_RPC and DUPLICATE_MESSAGE."""
         words = collections.Counter(it["event"] for it in self.lines)
         marks = collections.Counter(mark["mark"] for it in self.lines for mark in it.get("marks", ()))
         return {
@@ -142,7 +142,7 @@ class Trace:
         return []
 
     def right_hearing(self, line, after):
-        """An RPC whose parts do not follow came of a graylisted neighbour. One without parts may have come of any."""
+        """An RPC whose parts do not follow came from a graylisted neighbour. One without parts may have come from any."""
         is_lost = after is None or after["event"] not in PARTS if parts_in(line["rpc"]) else bool(line["fell_away"])
         return [{"what": "graylisted", "from": line["from"]}] if is_lost else []
 

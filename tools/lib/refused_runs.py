@@ -115,7 +115,7 @@ def calls_on(page):
 
 
 def count_differs(row, sweep, count, counted):
-    """What a line says of a run whose calls are more or fewer than were counted before. With several workers the numbers of
+    """What a line says about a run whose calls are more or fewer than were counted before. With several workers the numbers of
     two runs may differ."""
     before = counted.get((row.name, calls_of(sweep)), count)
     if row.workers > 1 or before == count:

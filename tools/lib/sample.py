@@ -31,7 +31,7 @@ def try_sample(tree, verdicts, uses, chosen_edits):
     """Tries edits over the libraries that rt ci made. It proves no crate first: the gate has just done so."""
     left = take_libraries(tree.top, f"{tree.room}/tree", with_those_below(uses, chosen_edits))
     if left:
-        say(f"not kept, so proved anew: {' '.join(left)}")
+        say(f"not kept, so proved again: {' '.join(left)}")
     for crate, edits in chosen_edits.items():
         for edit in edits:
             if minutes_of_children() > MOST_MINUTES:

@@ -16,7 +16,7 @@ ended() {
   local signal=$1 status=0 child begun turn mark=$RANDOM.$RANDOM
   shift
   rm -f "$room/asleep"
-  # `env` gives signals back their effect, which a shell takes from what it starts beside itself.
+  # `env` gives signals back their effect, which a shell takes from what it starts in the background.
   PATH="$room/fake/bin:$PATH" GUNTHARU_COMPILER="$room/fake/compiler" TMPDIR="$room/temporary" ENDED_BY=$mark \
     env --default-signal "$@" <"$example" >/dev/null 2>"$room/said_by_it" &
   child=$!
@@ -27,7 +27,7 @@ ended() {
   [ -e "$room/asleep" ] || { echo 'nothing sleeps' && cat "$room/said_by_it"; }
   begun=${EPOCHREALTIME/[.,]/}
   kill "-$signal" "$child"
-  # (the shell tells of a hangup)
+  # (the shell reports a hangup)
   wait "$child" 2>/dev/null || status=$?
   took=$(((${EPOCHREALTIME/[.,]/} - begun) / 1000))
   for child in $(marked "$mark"); do

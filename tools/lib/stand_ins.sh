@@ -111,7 +111,7 @@ description_in_file() {
   in_tree tried=1 "$@" <"$room/described"
 }
 
-# What is said of these programs where they are not proved.
+# What is said about these programs where they are not proved.
 unproved() {
   echo "gossip_sim: this $1 does not come from a proved program: $2 (bin/build proves it, in half an hour)"
 }
@@ -244,7 +244,7 @@ check_build() {
   touch "$place/gs_base/src/lib.rt"
   said='gossip_sim is older than crates/gs_base/src/lib.rt'
   expect 'a program that is too old' 4 '' "gossip_sim: $said: bin/build proves and builds it" tried none --proved
-  expect_like 'an unproved run beside it' 0 'gossip_sim  scenario' "*a proved program: $said*" tried 0
+  expect_like 'an unproved run instead of it' 0 'gossip_sim  scenario' "*a proved program: $said*" tried 0
   printf '#!/bin/sh\nexit 1\n' >"$place/gossip_sim/out/gossip_sim"
   expect 'a refusal whose words are not built' 1 '' 'gossip_sim: bin/gossip_sim --check FILE tells why in words' \
     tried none --words

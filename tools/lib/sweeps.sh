@@ -68,7 +68,7 @@ long_sweep() {
 }
 
 # A sweep of long runs, one at a time, that gets a signal once another row is kept. It tells whether a run goes on then.
-# `env` gives signals back their effect, which a shell takes from what it starts beside itself.
+# `env` gives signals back their effect, which a shell takes from what it starts in the background.
 interrupted() {
   local status=0 before child
   before=$(kept | wc -l)
@@ -83,7 +83,7 @@ interrupted() {
   return "$status"
 }
 
-# Takes the sweep up again, and tells which rows that were kept are made anew.
+# Takes the sweep up again, and tells which rows that were kept are made again.
 taken_up() {
   kept >"$room/before"
   long_sweep env
@@ -160,7 +160,7 @@ with open(sys.argv[2], "w", newline="") as it:
 PY
 }
 
-# A kept row is taken as it is. One that is not whole, or of a scenario that has changed since, is made anew.
+# A kept row is taken as it is. One that is not whole, or of a scenario that has changed since, is made again.
 check_kept_rows() {
   local few=(--into few --columns new one.toml)
   cp "$room/sweeps/three.toml" "$room/sweeps/one.toml"
@@ -195,7 +195,7 @@ check_sweep_arguments() {
   refused_sweep 'too many runs' 'a sweep has at most 1,000,000 runs, not 1,002,001' \
     --seeds 1..1001 --set a=1..1001 three.toml
   refused_sweep 'an unknown column' 'there is no column old' --columns new,old three.toml
-  refused_sweep 'no round to cut at' '--until takes a round, from 1 to 999999, or a time, as "150 s"' --until 0 three.toml
+  refused_sweep 'no round to cut at' '--until takes a round, from 1 to 999999, or a time, such as "150 s"' --until 0 three.toml
   refused_sweep 'a group without peers' \
     '--group takes NAME=PEERS, where NAME has 1 to 32 letters, digits, _ and -, not a' --group a three.toml
   refused_sweep 'a group twice' 'there are two groups a' --group a=a --group a=b three.toml
@@ -380,7 +380,7 @@ check_joined_arguments() {
   refused_joined 'a table of single runs' '--table goes with --over' in_joined --table it.toml
 }
 
-# What runs give together, of which some fail, and some lack a number. Of two rows that are kept it says that their programs
+# What runs give together, where some fail, and some lack a number. Of two rows that are kept it says that their programs
 # were not proved.
 check_joined() {
   local said='sweep: 6 of 15 runs failed, first d=6 seed=2: none of that' all=(--set 'd=4,6,7,8,9' --seeds 1..3)
@@ -392,7 +392,7 @@ check_joined() {
   expect 'a table of joined rows' 1 "$(joined_table)" "$said" with_stand_ins --table "${all[@]}"
   expect 'rows to keep, and to join' 1 "$(joined_rows)" "$said" with_stand_ins --into rows "${all[@]}"
   sed -i 's/^4,2,0,,yes/4,2,0,,no/; s/^8,3,1,\(.*\),yes/8,3,1,\1,no/' "$room/joined/rows"/*.csv
-  expect 'rows of which few are proved' 1 "$(joined_rows | sed '/^[48]/s/yes/mixed/')" "$said" \
+  expect 'rows with few that are proved' 1 "$(joined_rows | sed '/^[48]/s/yes/mixed/')" "$said" \
     with_stand_ins --into rows "${all[@]}"
   check_joined_arguments
 }

@@ -7,7 +7,7 @@ as_libp2p() {
   printf '%s\n' "$@" | "$top/bin/libp2p_trace"
 }
 
-# The same of the lines of a run of one round of a and b, each of whom ends it and shuts down.
+# The same of the lines of a run of one round of a and b, where each ends it and shuts down.
 as_run() {
   local peer nothing='"sent":[],"delivered":[],"promise":null,"marks":[]' ends=()
   for peer in a b; do

@@ -14,7 +14,7 @@ def tell(heading, lines):
 
 
 class Verdicts:
-    """Counts those that were refused, and keeps what is to be said of others. Each verdict goes into the ledger, if any."""
+    """Counts those that were refused, and keeps what is to be said about others. Each verdict goes into the ledger, if any."""
 
     def __init__(self, ledger=None):
         self.ledger, self.refused = ledger, 0

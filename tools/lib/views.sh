@@ -1,12 +1,12 @@
 # shellcheck shell=bash disable=SC2154
-# What bin/gossip_view takes and refuses, where scripts stand in for programs, and what a page has of given lines. The lists of
+# What bin/gossip_view takes and refuses, where scripts stand in for programs, and what a page shows for given lines. The lists of
 # numbers are worked out by hand from bin/lib/view_events.py. tools/check_scripts reads this file.
 
 tried_view() {
   echo scenario | GUNTHARU_D3=$room/library in_tree tried=0 gossip_view "$@"
 }
 
-# What a page would have of these lines, and of a part of them. `rules` is a scenario, and `shown` has what is printed.
+# What a page would show for these lines, and for a part of them. `rules` is a scenario, and `shown` has what is printed.
 rules='' shown=(meshes subscribed lost figures events)
 run_of() {
   local rounds=$1 only=$2
@@ -84,18 +84,18 @@ check_pages() {
     '{"round":2,"at":200,"peer":"a","event":"gone","from":"b",'"$rest"'{"mark":"pruned","peer":"b","topic":"news"}]}'
     '{"round":2,"at":200,"peer":"a","event":"round_end","number":2,'"$rest"']}'
   )
-  expect 'what a page has of a trace' 0 "meshes [[0, 1, 0, 0, 2]]
+  expect 'what a page shows about a trace' 0 "meshes [[0, 1, 0, 0, 2]]
 subscribed [[0, 0, 0, 3]]
 lost [[0, 1, 2, 3]]
 figures [[0, 0, 0, 0, 0, 0, 0, 1, 1], [1, 1, 1, 0, 0, 0, 0, 1, 1], [0, 0, 0, 0, 0, 0, 0, 0, 0]]
 events [[[0, 14, -1, 0, -1, -1, [[0, 1, 0]]]], [[0, 3, 1, 0, 0, 0], [0, 3, 1, 0, 0, 1], [0, 6, 1, 1, -1, 0, [[20, 1, 1, 0]]]], [[0, 0, 1, -1, -1, -1, [[17, 0, 1], [18, 1]]], [0, 19, 1, -1, -1, -1, [[1, 1, 0]]]]]" \
     '' run_of '' '' "$head" "${lines[@]}"
-  expect 'what a page has of a round' 0 "meshes [[0, 1, 0, 0, 2]]
+  expect 'what a page shows about a round' 0 "meshes [[0, 1, 0, 0, 2]]
 subscribed [[0, 0, 0, 3]]
 lost [[0, 1, 2, 3]]
 figures [[0, 0, 0, 0, 0, 0, 0, 0, 0]]
 events [[[0, 0, 1, -1, -1, -1, [[17, 0, 1], [18, 1]]], [0, 19, 1, -1, -1, -1, [[1, 1, 0]]]]]" '' run_of 2..9 '' "$head" "${lines[@]}"
-  expect 'what a page has of a peer: what others heard of it' 0 "meshes [[0, 1, 0, 0, 2]]
+  expect 'what a page shows about a peer: what others heard of it' 0 "meshes [[0, 1, 0, 0, 2]]
 subscribed [[0, 0, 0, 3]]
 lost [[0, 1, 2, 3]]
 figures [[0, 0, 0, 0, 0, 0, 0, 1, 1], [1, 1, 1, 0, 0, 0, 0, 1, 1], [0, 0, 0, 0, 0, 0, 0, 0, 0]]
@@ -106,7 +106,7 @@ events [[], [[0, 3, 1, 0, 0, 0], [0, 3, 1, 0, 0, 1]], []]" '' run_of '' b "$head
   expect 'a page of a trace that ends at once' 65 '' 'gossip_view: the trace has no line' no_lines
 }
 
-# What a page has of messages, and of what became of them. b and c are on the topic from round 0 on, and c hangs up on its only
+# What a page shows about messages, and about what became of them. b and c are on the topic from round 0 on, and c hangs up on its only
 # neighbour in round 1. In round 1 a publishes 01, which b has in round 2. In round 2 it publishes ff, which b ignores, and
 # ignores again. In round 5 it publishes 01 once more, which it has forgotten, and b has not.
 check_messages() {
@@ -116,15 +116,15 @@ check_messages() {
     '{"round":1,"at":100,"peer":"c","event":"hang_up","to":"b",'"$nothing"'}' "$(handles 2 $one 01 b accept)"
     "$(publishes 2 $other ff a)" "$(handles 3 $other ff b ignore)" "$(handles 4 $other ff b)" "$(publishes 5 $one 01 a)")
   printf '%s\n' 'params = { seen_ttl_ms = 400 }' 'topic = [{ name = "t", ignore = ["F"] }]' >"$rules"
-  expect 'what a page has of messages' 0 "figures [[0, 0, 0, 0, 0, 0, 0, None, None], [0, 0, 0, 0, 0, 0, 0, None, None], [1, 1, 0, 0, 0, 0, 0, None, None], [0, 0, 0, 1, 0, 0, 0, None, None], [0, 0, 0, 1, 0, 0, 0, None, None], [0, 0, 0, 0, 0, 0, 0, None, None], [0, 0, 0, 0, 0, 0, 0, None, None]]
+  expect 'what a page shows about messages' 0 "figures [[0, 0, 0, 0, 0, 0, 0, None, None], [0, 0, 0, 0, 0, 0, 0, None, None], [1, 1, 0, 0, 0, 0, 0, None, None], [0, 0, 0, 1, 0, 0, 0, None, None], [0, 0, 0, 1, 0, 0, 0, None, None], [0, 0, 0, 0, 0, 0, 0, None, None], [0, 0, 0, 0, 0, 0, 0, None, None]]
 publications [[0, 0, 1, 'accept', [0], [1, 2], [(0, 1), (1, 2)]], [0, 1, 2, 'ignore', [0], [1], [(0, 2)]], [0, 0, 5, 'accept', [0], [1], [(0, 5), (1, 5)]]]" \
     '' run_of '' '' "${lines[@]}"
-  expect 'what a page of one round has of messages' 0 "figures [[0, 0, 0, 0, 0, 0, 0, None, None]]
+  expect 'what a page of one round shows about messages' 0 "figures [[0, 0, 0, 0, 0, 0, 0, None, None]]
 publications [[0, 0, 5, 'accept', [0], [1], [(0, 5), (1, 5)]]]" '' run_of 5..5 '' "${lines[@]}"
-  expect 'what a page of one peer has of messages' 0 "figures [[0, 0, 0, 0, 0, 0, 0, None, None]]
+  expect 'what a page of one peer shows about messages' 0 "figures [[0, 0, 0, 0, 0, 0, 0, None, None]]
 publications None" '' run_of 5..5 a "${lines[@]}"
   echo 'params =' >"$rules"
-  expect 'what a page has of messages that it can not read the rules of' 0 "figures [[0, 0, 0, 0, 0, 0, 0, None, None]]
+  expect 'what a page shows about messages where it can not read the rules' 0 "figures [[0, 0, 0, 0, 0, 0, 0, None, None]]
 publications None" '' run_of 5..5 '' "${lines[@]}"
 }
 
@@ -148,7 +148,7 @@ handles() {
   echo '{"round":'"$1"',"at":'"$(($1 * 100))"',"peer":"'"$4"'","event":"message","from":"a","part":'"$part"',"id":"'"$2"'","sent":[],"delivered":['"$delivered"'],"promise":null,"marks":['"$marks"']}'
 }
 
-# What a page has of these lines of scores.
+# What a page shows about these lines of scores.
 scores_of() {
   printf '%s\n' "${@:2}" >"$room/scores"
   python3 -c '
@@ -172,12 +172,12 @@ check_scores() {
   topics+=',"invalid_message_deliveries":{"counted":3.000000,"weighed":-90.000000},"topic_score":-89.990000}'
   rest='"app_specific_score":'$none',"ip_colocation_factor":{"neighbours":1,"weighed":0.000000},"behaviour_penalty":'$none'}'
   line='"neighbour":"b","score":0.000000,"topics":[],"topic_sum":0.000000,"capped_topic_sum":0.000000,'$rest
-  expect 'what a page has of scores' 0 "thresholds [-10, -50, -80]
+  expect 'what a page shows about scores' 0 "thresholds [-10, -50, -80]
 bodies [[0, 0, 0, 0, 0, 1, 0, 0, 0, []], [-89.99, -89.99, -89.99, 0, 0, 1, 0, 0, 0, [[0, -89.99, 1, 0.01, 0, 0, 0, 0, 0, 0, 3, -90]]]]
 pairs [[0, 1, [0, 0, 0, 2, 1, 1]]]" '' scores_of '' "$head" '{"round":0,"at":0,"peer":"a","event":"heartbeat",'"$line" \
     '{"round":1,"at":100,"peer":"a","event":"heartbeat",'"$line" \
     '{"round":2,"at":200,"peer":"a","event":"decay","neighbour":"b","score":-89.990000,"topics":['"$topics"'],"topic_sum":-89.990000,"capped_topic_sum":-89.990000,'"$rest"
-  expect 'what a page of another peer has of scores' 0 'thresholds [-10, -50, -80]
+  expect 'what a page of another peer shows about scores' 0 'thresholds [-10, -50, -80]
 bodies [[0]]
 pairs [[0, 1, [0, 0, 0]]]' '' scores_of c "$head" '{"round":0,"at":0,"peer":"a","event":"heartbeat",'"$line"
 }

@@ -83,7 +83,7 @@ mutants: one/wrong_third.edit: refused by its module
 2 refused, 0 not refused" '' bodies --narrow --only '_t' one
   expect_like 'a sample of wrong bodies' 0 'mutants: trying these, and again by: tools/mutants --sample 2 --by a
   one/*mutants: copying the repository
-mutants: not kept, so proved anew: one
+mutants: not kept, so proved again: one
 *one/wrong_third.edit: refused by its module*
 2 refused, 0 not refused' '' bodies --sample 2 --by a one
   expect 'wrong bodies at once' 1 "$begun

@@ -9,7 +9,7 @@ from .loads import links_of, moments, sized_payload
 
 COMMON = "kind peer to topic from".split()
 REPEATED = "until every count".split()
-# The keys of each kind beside the common ones.
+# The keys of each kind besides the common ones.
 KEYS = {
     "spam": [*REPEATED, "size", "begins"],
     "ihave_flood": [*REPEATED, "ids"],
@@ -189,7 +189,7 @@ def add_attack(world, table, place):
     RUN[attack.kind](attack)
 
 
-# What is said of keys that a partition has not: of those by which one might be to end.
+# What is said about keys that a partition has not: about those that might be meant to end one.
 HEALS = (
     "a closed link stays closed, so a partition has no end; one that heals is a group of gateways that leave the topic and "
     'come back: docs/DESCRIPTIONS.md, "[[partition]]", shows it'

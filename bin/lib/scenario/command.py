@@ -164,7 +164,7 @@ def text_of(options, data):
 
 
 def scenario_in(options, data):
-    """The plain scenario that comes of a file; the file itself where it is one."""
+    """The plain scenario for a file; the file itself where it is one."""
     if not HINT.search(data) and options.params is None:
         return data
     text = text_of(options, data)

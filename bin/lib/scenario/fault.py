@@ -1,7 +1,7 @@
 """Why a description is refused, and where."""
 import difflib
 
-# How many known words are all named beside an unknown one.
+# Up to how many known words are all named for an unknown one.
 MOST_SHOWN = 8
 
 
@@ -26,7 +26,7 @@ class Missing(Exception):
 
 
 def words_of(path):
-    """A path in words, as `[[load]] 2: every`."""
+    """A path in words, such as `[[load]] 2: every`."""
     if len(path) > 1 and isinstance(path[1], int):
         words, rest = [f"[[{path[0]}]] {path[1] + 1}"], path[2:]
     elif path and path[0] in ("network", "params"):
@@ -64,7 +64,7 @@ def nearest(word, known):
 
 
 def unknown(word, known, hint=None):
-    """What is said of an unknown word: a hint, or the nearest of the known ones, or all of these where they are few."""
+    """What is said about an unknown word: a hint, or the nearest of the known ones, or all of these where they are few."""
     near = nearest(word, known)
     if hint is None and near:
         hint = f"the nearest is {near}"
@@ -75,6 +75,6 @@ def unknown(word, known, hint=None):
 
 
 def no_such(kind, name, known):
-    """What is said of a name that nothing has."""
+    """What is said about a name that nothing has."""
     near = nearest(name, known)
     return f'there is no {kind} "{name}"' + (f'; the nearest is "{near}"' if near else "")

@@ -16,7 +16,7 @@ MOST_ROUNDS = 100_000
 
 
 def whole_hint(key, value):
-    """What to write in place of a value that is no whole number, for a key that holds one; empty where that is not sure."""
+    """What to write instead of a value that is no whole number, for a key that holds one; empty where that is not sure."""
     if isinstance(value, Decimal) and value.is_finite() and abs(value) <= 10**12 and value == int(value):
         return f"; write {int(value)}"
     if not isinstance(value, str):
@@ -52,7 +52,7 @@ def rounds_of(value, round_ms, fail):
         return value
     milliseconds = milliseconds_of(value) if isinstance(value, str) else None
     if milliseconds is None:
-        fail(f'{shown(value)} is no time: it must be a number of rounds, or a text with a unit, as "500 ms", "12 s" or "2 min"')
+        fail(f'{shown(value)} is no time: it must be a number of rounds, or a text with a unit, such as "500 ms", "12 s" or "2 min"')
     if milliseconds % round_ms:
         fail(f"{value} is no multiple of round_ms, which is {round_ms}")
     if milliseconds // round_ms > MOST_ROUNDS:
@@ -108,12 +108,12 @@ class Fields:
         return self.get(key, default, is_right, f"a whole number from {low} to {high}", whole_hint)
 
     def part(self, key, default=REQUIRED):
-        """A part of 1, as 0.25, in millionths."""
+        """A part of 1, such as 0.25, in millionths."""
 
         def is_right(it):
             return isinstance(it, (int, Decimal)) and not isinstance(it, bool) and 0 <= it <= 1
 
-        value = self.get(key, default, is_right, "a number from 0 to 1, as 0.25")
+        value = self.get(key, default, is_right, "a number from 0 to 1, such as 0.25")
         return value if value is None else int((Decimal(value) * 1_000_000).to_integral_value())
 
     def one_of(self, key, choices, default=REQUIRED):
@@ -140,7 +140,7 @@ class Fields:
 
     def moment(self, key, default=REQUIRED):
         """A moment or a span of time, in rounds."""
-        value = self.get(key, default, lambda _: True, 'a number of rounds, or a text with a unit, as "12 s"')
+        value = self.get(key, default, lambda _: True, 'a number of rounds, or a text with a unit, such as "12 s"')
         if key not in self.table:
             return value
         return rounds_of(value, self.round_ms, lambda why: self.fail(key, why))

@@ -1,4 +1,4 @@
-"""go-libp2p-pubsub's parameters, and what they are called here. docs/COVERAGE.md has both names beside each other."""
+"""go-libp2p-pubsub's parameters, and what they are called here. docs/COVERAGE.md has both names side by side."""
 import json
 import re
 from collections import namedtuple
@@ -87,7 +87,7 @@ TOPIC = {
     "InvalidMessageDeliveriesWeight": ones("w4", -BILLION, 0),
     "InvalidMessageDeliveriesDecay": decay("p4_decay"),
 }
-# What has no counterpart, and what comes of that where it matters to a run.
+# What has no counterpart, and what follows where that matters to a run.
 NO_COUNTERPART = {
     "AcceptPXThreshold": "there is no peer exchange",
     "AppSpecificScore": "[[app]] has values of the application's score",
@@ -119,7 +119,7 @@ GO_DEFAULTS = {
 
 
 def nanoseconds(value):
-    """A duration as Go writes it in JSON, a number of nanoseconds, or in text, as "1h0m0.5s". None where it is neither."""
+    """A duration as Go writes it in JSON, a number of nanoseconds, or in text, such as "1h0m0.5s". None where it is neither."""
     if isinstance(value, int) and not isinstance(value, bool):
         return value
     if not isinstance(value, str) or not re.fullmatch(r"(?:[0-9]+(?:\.[0-9]+)?(?:ns|us|µs|ms|s|m|h))+", value):
@@ -129,7 +129,7 @@ def nanoseconds(value):
 
 
 def decayed(part, over, interval):
-    """What is left of a counter after one interval, where so much is left after `over`."""
+    """What is left of a counter after one interval, where `part` is left after `over`."""
     return EXACT.power(Decimal(part), EXACT.divide(Decimal(interval), Decimal(over)))
 
 
@@ -155,7 +155,7 @@ class Reader:
         if key.unit in ("ms", "s"):
             span_of = nanoseconds(value)
             if span_of is None:
-                self.fault(f'{name} is no duration: it must be nanoseconds, or a text as "1h0m0.5s"')
+                self.fault(f'{name} is no duration: it must be nanoseconds, or a text such as "1h0m0.5s"')
             unit = 10**6 if key.unit == "ms" else 10**9
             if span_of % unit:
                 self.say(f"{name} is rounded to whole {'milliseconds' if key.unit == 'ms' else 'seconds'}: {key.name}")

@@ -9,7 +9,7 @@ GROUP = "prefix count network dials dials_each address addresses app_score expli
 TOPIC_TIME = "name from until".split()
 NETWORK = "kind degree rewire clusters bridges hub dialer seed".split()
 KINDS = "ring line star full random small_world clusters".split()
-# The keys of each kind beside `kind`, `dialer` and `seed`.
+# The keys of each kind besides `kind`, `dialer` and `seed`.
 KEYS_OF_KIND = {
     "star": ["hub"],
     "random": ["degree"],
@@ -56,7 +56,7 @@ def add_group(world, fields):
 
 
 def dial_from_group(world, fields, names):
-    """Adds the dials of a group's own: each peer dials the named ones, or some of these by chance."""
+    """Adds the dials of a group's own: each peer dials the named ones, or some of these at random."""
     if not fields.has("dials"):
         if fields.has("dials_each"):
             fields.fail("dials_each", "it goes with dials")
@@ -176,7 +176,7 @@ def app_scores(world, fields, names, taken):
 
 
 def agreements(world, fields, names, taken):
-    """The peering agreements of a group: both ways between each two of its peers that are joined."""
+    """The peering agreements of a group: both ways between any two of its peers that are joined."""
     if not fields.truth("explicit", False):
         return []
     pairs = [(one, other) for one in names for other in names if world.are_joined(one, other)]

@@ -59,7 +59,7 @@ def payload_maker(world, fields, topic, is_one):
 
 
 def publishers(fields, names, number, draws):
-    """Who publishes at the moment of a number: one after the other, one by chance, or all."""
+    """Who publishes at the moment of a number: one after the other, a random one, or all."""
     by = fields.one_of("by", ["turn", "random", "all"], "turn")
     if by == "all":
         return names

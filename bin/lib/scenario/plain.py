@@ -20,7 +20,7 @@ TOPIC = (
 PEER, DIAL = "name address words".split(), "from to".split()
 APP, EXPLICIT = "peer about value".split(), "peer about".split()
 DO = "what at peer topic to hex".split()
-# What a line has beside `what`, `at` and `peer`, by what it does.
+# What a line has besides `what`, `at` and `peer`, by what it does.
 KEYS_OF_LINE = {
     "subscribe": ["topic"],
     "unsubscribe": ["topic"],
@@ -40,7 +40,7 @@ def value_text(value):
     if isinstance(value, str):
         if SIMPLE.fullmatch(value):
             return f'"{value}"'
-        # (a text of JSON in ASCII is one of TOML, but for the halves of characters beyond 16 bits)
+        # (a text of JSON in ASCII is one of TOML, except for the halves of characters beyond 16 bits)
         return json.dumps(value, ensure_ascii=False).replace("\x7f", "\\u007f")
     if isinstance(value, list):
         return "[" + ", ".join(map(value_text, value)) + "]"

@@ -6,7 +6,7 @@ from .plain import MOST_BYTES, MOST_PEERS, MOST_RAW
 
 # The length of a round in milliseconds, the last round, and the seed of all choices.
 Setting = namedtuple("Setting", "round_ms rounds seed")
-# A message of the script: when, by whom and on which topic it is published.
+# A message of the script: when it is published, its publisher, its topic and its payload.
 Published = namedtuple("Published", "at peer topic payload")
 
 

@@ -53,7 +53,7 @@ class Chart {
     this.state.go(this.roundAt(d3.mouse(this.svg.node())[0]));
   }
 
-  // What a click does beside going to a round.
+  // What a click does besides going to a round.
   hit() {}
 
   setScale(low, high, ticks) {

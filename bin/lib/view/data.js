@@ -88,7 +88,7 @@ class RunData {
     }
   }
 
-  // Adds an event for each score that came to another class: [peer, kind, neighbour, the score before, the new one].
+  // Adds an event for each score that changed its class: [peer, kind, neighbour, the score before, the new one].
   setTurns() {
     for (const [peer, other, course] of this.scores ? this.scores.pairs : []) {
       for (let place = 0; place < course.length; place += 3) {
@@ -124,7 +124,7 @@ class RunData {
       { topic, item, round, verdict, publishers, subscribers, had: new Map(had) }));
   }
 
-  // Of those who could get a message, whom it came to up to the end of a round, and whom not.
+  // Of those who could get a message, the peers that had it at the end of a round, and the others.
   reachOf(publication, round) {
     const came = [];
     const lacking = [];
@@ -188,7 +188,7 @@ class RunData {
     return this.sizes.get(topic);
   }
 
-  // The messages of a topic that came in a round, counted by who sent them to whom; of a publication, only that message. Of
+  // The messages of a topic that came in a round, counted by sender and receiver; of a publication, only that message. Of
   // an RPC that was not heard it is not known which messages it had.
   wayOf(topic, round, publication) {
     const found = new Map();

@@ -5,14 +5,14 @@
 function setTheme() {
   const root = document.documentElement;
   const button = document.getElementById('theme');
-  const wish = matchMedia('(prefers-color-scheme: dark)');
+  const scheme = matchMedia('(prefers-color-scheme: dark)');
   const set = (isDark) => {
     root.dataset.theme = isDark ? 'dark' : 'light';
     button.textContent = isDark ? 'light' : 'dark';
   };
   button.addEventListener('click', () => set(root.dataset.theme !== 'dark'));
-  wish.addEventListener('change', () => set(wish.matches));
-  set(wish.matches);
+  scheme.addEventListener('change', () => set(scheme.matches));
+  set(scheme.matches);
 }
 
 function setHelp() {

@@ -20,7 +20,7 @@ class MessageChoice {
     this.state.set({ publication, round: publication ? publication.round : this.state.round });
   }
 
-  // The publications on the topic, each with how many of its subscribers it came to.
+  // The publications on the topic, each with how many of its subscribers it reached.
   fill() {
     const { run, words, state } = this;
     this.choice.replaceChildren(new Option('(all)', -1));

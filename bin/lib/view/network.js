@@ -119,7 +119,7 @@ class Network {
     item('of both', line('link both'), 'each has the other in its mesh');
     item('one-sided', line('link one', 'one'), 'only the peer at the tail has the other one in its mesh');
     begin('messages heard in the round:');
-    item('new', line('arrow fresh', 'fresh'), 'a message that was new to whom it came to');
+    item('new', line('arrow fresh', 'fresh'), 'a message that was new to its receiver');
     item('duplicate', line('arrow duplicate', 'duplicate'), 'a message that had come before');
     item('refused', line('arrow refused', 'refused'), 'a message that was rejected or ignored');
     item('not heard', line('arrow unheard', 'unheard'), 'a message in an RPC that was not heard');

@@ -69,7 +69,7 @@ class Words {
     return REFUSALS[this.run.words[number]] || this.run.words[number];
   }
 
-  // What happened, and what came of it.
+  // What happened, and what followed from it.
   sentence(event) {
     const effects = this.byName(event[6] || []);
     const kind = this.run.kinds[event[1]];
@@ -179,7 +179,7 @@ class Words {
     return [`refused line ${line} of the script, ${this.run.words[what]}: ${REFUSED_LINES[number]} (${number})`];
   }
 
-  // What came of an event, but for what its main clause has said.
+  // What followed from an event, except what its main clause has said.
   clauses(effects, skipped, kind) {
     const found = [];
     for (const [name, items] of Object.entries(effects)) {
@@ -190,7 +190,7 @@ class Words {
     return [...counts].map(([words, count]) => (count > 1 ? `${words}, ${count} times` : words));
   }
 
-  // A score that came to another class since it was noted last, with the parts that are below 0.
+  // A score that changed its class since it was noted last, with the parts that are below 0.
   of_scored([, , who, before, after]) {
     const { scores } = this.run;
     const [score] = scores.bodies[after];
@@ -287,7 +287,7 @@ class Words {
     return before >= 0 && bodies[after][0] > bodies[before][0];
   }
 
-  // Whether an event of another peer is told where this one is looked at: it was scored, refused, lost or charged, or joined
+  // Whether an event of another peer is shown for this one: it was scored, refused, lost or charged, or joined
   // or left the other's mesh.
   isAbout(event, peer) {
     const kind = this.run.kinds[event[1]];
@@ -297,7 +297,7 @@ class Words {
   }
 }
 
-// What an event may say of another peer than the one that it came from.
+// What an event may say about another peer than the one that it came from.
 const ABOUT = ['grafted', 'pruned', 'deficit', 'misbehaviour', 'broken'];
 
 const SORTS = {

@@ -1,4 +1,4 @@
-"""Packages that only tests use: networkx, and protobuf's own library, which reads and writes RPCs beside wire.py."""
+"""Packages that only tests use: networkx, and protobuf's own library, which reads and writes RPCs as wire.py does."""
 import functools
 import importlib
 import sys

@@ -17,7 +17,7 @@ END = 'rounds = 9\n[[group]]\nprefix = "g"\n'
 
 
 def taken(values, description=HEAD + GROUP, *words):
-    """The scenario that comes of a JSON file, and what is said."""
+    """The scenario for a JSON file, and what is said."""
     with tempfile.TemporaryDirectory() as folder:
         with open(f"{folder}/p.json", "w", encoding="utf-8") as file:
             file.write(values if isinstance(values, str) else json.dumps(values))
@@ -164,7 +164,7 @@ class Json(unittest.TestCase):
             ({"Dlow": 5}, '"Dlow" is not known here; the nearest is Dlo'),
             ({"D": 1.5}, "D must be a whole number"),
             ({"D": "8"}, "D must be a number"),
-            ({"FanoutTTL": "soon"}, 'FanoutTTL is no duration: it must be nanoseconds, or a text as "1h0m0.5s"'),
+            ({"FanoutTTL": "soon"}, 'FanoutTTL is no duration: it must be nanoseconds, or a text such as "1h0m0.5s"'),
             ({"FloodPublish": 1}, "FloodPublish must be true or false"),
             ("[]", "it must be an object"),
         ):

@@ -12,7 +12,7 @@ from .common import TOP, in_file, printed, run
 HEAD = 'until = "10 s"\n[[topic]]\nname = "news"\n'
 GROUP = '[[group]]\nprefix = "g"\ncount = 3\ndials = "g"\n'
 
-# What follows HEAD, and what is said of it.
+# What follows HEAD, and what is said about it.
 CASES = {
     '[network]\nkind = "ring"\ndegre = 3\n' + GROUP: '6: [network]: degre: "degre" is not known here; the nearest is degree',
     '[network]\nkind = "rnig"\n' + GROUP: '5: [network]: kind: "rnig" is not known here; the nearest is ring',
@@ -20,7 +20,7 @@ CASES = {
     '[network]\nkind = "random"\ndegree = 3\n' + GROUP: "6: [network]: degree: 3 is too much for 3 peers: each has at most 2 others",
     '[network]\nkind = "random"\ndegree = 1\n' + GROUP: "6: [network]: degree: with one neighbour each, not all peers are joined: it must be 2 at least",
     '[network]\nkind = "small_world"\ndegree = 1\n[[group]]\nprefix = "g"\ncount = 2\n': "6: [network]: degree: 1 is odd, and a small world joins as many on both sides",
-    '[network]\nkind = "small_world"\ndegree = 2\nrewire = 2\n' + GROUP: "7: [network]: rewire: 2 must be a number from 0 to 1, as 0.25",
+    '[network]\nkind = "small_world"\ndegree = 2\nrewire = 2\n' + GROUP: "7: [network]: rewire: 2 must be a number from 0 to 1, such as 0.25",
     '[network]\nkind = "star"\nhub = "x"\n' + GROUP: '6: [network]: hub: there is no peer of the network "x"',
     '[network]\nkind = "random"\n' + GROUP: "4: [network]: degree is missing: it must be a whole number from 1 to 63",
     '[network]\nkind = "ring"\n[[group]]\nprefix = "g"\n': "4: [network]: it needs two peers at least, and has 1",
@@ -35,9 +35,9 @@ CASES = {
     '[[group]]\nprefix = "g"\nfrom = "2 s"\nuntil = "1 s"\n': "7: [[group]] 1: until: a topic must be left later than it is subscribed to",
     GROUP + '[[load]]\npeer = "h"\nevery = 5\n': '9: [[load]] 1: peer: there is no peer and no group "h"',
     GROUP + '[[load]]\npeer = "g4"\nevery = 5\n': '9: [[load]] 1: peer: there is no peer and no group "g4"',
-    GROUP + '[[load]]\npeer = "g"\n': '8: [[load]] 1: every is missing: it must be a number of rounds, or a text with a unit, as "12 s"',
+    GROUP + '[[load]]\npeer = "g"\n': '8: [[load]] 1: every is missing: it must be a number of rounds, or a text with a unit, such as "12 s"',
     GROUP + '[[load]]\npeer = "g"\nevery = "250 ms"\n': "10: [[load]] 1: every: 250 ms is no multiple of round_ms, which is 100",
-    GROUP + '[[load]]\npeer = "g"\nevery = "soon"\n': '10: [[load]] 1: every: "soon" is no time: it must be a number of rounds, or a text with a unit, as "500 ms", "12 s" or "2 min"',
+    GROUP + '[[load]]\npeer = "g"\nevery = "soon"\n': '10: [[load]] 1: every: "soon" is no time: it must be a number of rounds, or a text with a unit, such as "500 ms", "12 s" or "2 min"',
     GROUP + '[[load]]\npeer = "g"\nevery = 0\n': "10: [[load]] 1: every: a round at least must lie between",
     GROUP + '[[load]]\npeer = "g"\nevery = 5\nfrom = "11 s"\n': "11: [[load]] 1: from: it is later than the last round, 100",
     GROUP + '[[load]]\npeer = "g"\nevery = 5\nfrom = 9\nuntil = 9\n': "12: [[load]] 1: until: nothing lies between from and until",

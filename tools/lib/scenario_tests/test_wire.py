@@ -75,7 +75,7 @@ def parts_of_attack(kind, keys):
 
 
 def drawn(dice, kind):
-    """A message of a kind, with fields by chance: none of them, empty ones, and those of lengths of one byte and of two."""
+    """A message of a kind, with random fields: none of them, empty ones, and those of lengths of one byte and of two."""
     parts = {}
     for label, of, name, _ in wire.FIELDS[kind]:
         many = dice.randrange(4) if label == "repeated" else dice.randrange(2)

@@ -1,4 +1,4 @@
-"""The commands that take a description in the place of a scenario: in a tree whose programs print what they are given."""
+"""The commands that take a description instead of a scenario: in a tree whose programs print what they are given."""
 import os
 import shutil
 import subprocess
