@@ -15,7 +15,7 @@ HEAD = """\
 # Columns: the edit, a sum of the texts that it was tried on, the commit, how, and the verdict. A + after the commit says
 # that crates/ differed from it.
 """
-# How an edit was tried. (docs/STATUS.md said of a whole crate that its edits were tried, before there was a ledger.)
+# How an edit was tried. (Before there was a ledger, docs/STATUS.md named whole crates whose edits were tried.)
 BY_MODULE, BY_CRATE, AT_ONCE, BY_HAND = "module", "crate", "at-once", "by-hand"
 WAYS = BY_MODULE, BY_CRATE, AT_ONCE, BY_HAND
 # What became of it. (It is refused by names where a proof file names what it took away.)
@@ -101,7 +101,7 @@ class Ledger:
         self.path, self.folder_of, self.commit = f"{top}/{PLACE}", folder_of, commit_of(top)
 
     def note(self, edit, way, verdict):
-        """Puts a note in the place of the one that the edit had. Several runs may do so at a time."""
+        """Replaces the note that the edit had. Several runs may do so at a time."""
         note = Note(edit.label, sum_of(edit, self.folder_of(edit.crate)), self.commit, way, verdict)
         with open(self.path, "r+", encoding="utf-8") as stream:
             fcntl.flock(stream, fcntl.LOCK_EX)
