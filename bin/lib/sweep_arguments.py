@@ -4,7 +4,7 @@ import re
 import sys
 from collections import namedtuple
 
-from sweep_runs import HOW_ENDED, NETWORK, Settings, between_commas
+from sweep_runs import HOW_ENDED, NETWORK, WHOLE, Settings, between_commas
 from until import TAKES, WHEN
 
 MOST_RUNS = 1_000_000
@@ -96,13 +96,20 @@ class Arguments:
         return self.values["--columns"].split(",") if "--columns" in self.values else None
 
     def figure_options(self):
-        """The options of gossip_stats. The messages of a peer are those that it published."""
+        """The options of gossip_stats."""
         if "--peer" in self.values and "--by" in self.values:
             refuse("--peer NAME has the messages that NAME published, so there is no place for --by")
-        by = self.values.get("--by", self.values.get("--peer"))
-        given = (("--by", by), ("--of", self.values.get("--of")), *(("--group", it) for it in self.groups))
         self.check_groups()
+        given = (("--by", self.publishers()), ("--of", self.values.get("--of")), *(("--group", it) for it in self.groups))
         return [word for name, value in given if value is not None for word in (name, value)]
+
+    def publishers(self):
+        """Whose messages count. Those of a peer are what it published, and those of a group's row what its members did."""
+        if "--peer" not in self.values:
+            return self.values.get("--by")
+        peer = self.values["--peer"]
+        groups = dict(it.split("=", 1) for it in self.groups)
+        return None if peer == WHOLE else groups.get(peer[1:-1], peer) if peer[:1] + peer[-1:] == "()" else peer
 
     def check_groups(self):
         """Groups as gossip_stats takes them. Columns of two pairs of groups must have different names, too."""
@@ -114,6 +121,8 @@ class Arguments:
         for it in names:
             if names.count(it) > 1:
                 refuse(f"there are two groups {it}")
+            if f"({it})" == WHOLE:
+                refuse(f"{it} is all peers, and no name of a group")
         if len(names) > MOST_GROUPS:
             refuse(f"there are at most {MOST_GROUPS} groups, not {len(names)}")
         pairs = [f"{one}_to_{other}" for one in names for other in names]

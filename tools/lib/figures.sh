@@ -57,8 +57,14 @@ check_figures() {
     expect "the sums over rounds and links of $(basename "$file" .toml)" 0 '' '' sums_of "$file"
   done
   expect 'figures of nothing' 1 '' 'scenario refused: 28 round_ms' stats /dev/null
-  usage='usage: gossip_stats [--by PEERS] [--of PEERS] [--group NAME=PEERS].. [--rounds | --topics | --links] [--csv | --json]'
+  usage='usage: gossip_stats [--by PEERS | --rounds | --topics | --links] [--of PEERS] [--group NAME=PEERS].. [--csv | --json]'
   expect 'two forms of figures' 64 '' "$usage" stats --csv --json "$example"
+  expect 'publishers of no message' 64 '' 'gossip_stats: --rounds has no messages, so there is no place for --by; --help says more' \
+    stats --by a --rounds "$example"
+  expect 'groups of links' 64 '' 'gossip_stats: --links has no groups, so there is no place for --group; --help says more' \
+    stats --links --group one=a "$example"
+  expect 'a group of the name of all' 64 '' "$usage" stats --group all=a "$example"
+  expect 'publishers of no message, by the program' 64 '' "$usage" "$top/crates/gossip_stats/out/gossip_stats" --by a --topics
   expect 'arguments of the program that figures are of' 64 '' "$usage" "$top/crates/gossip_stats/out/gossip_stats" --group a
   expect 'figures of no such file' 66 '' "gossip_stats: there is no file $room/none" stats "$room/none"
   expect 'an option that figures do not have' 64 '' \

@@ -6,7 +6,7 @@ import json
 
 from read_counts import COUNTS, OF_BYTES, OF_NO_LINK, OF_NO_TOPIC, happenings, sizes_of_meshes
 from read_reach import NEVER, Reach, at_share, chosen, share_of
-from read_scores import shown
+from read_scores import before_decays, shown
 
 SUBJECTS = "--rounds", "--topics", "--links"
 SHARES = {"median_round": 50, "round_90": 90, "last_round": 100}
@@ -43,6 +43,12 @@ def scores_over_time(lines):
         yield Score(it["round"], it["at"], it["peer"], it["neighbour"], millionths(it["score"]))
 
 
+def scores_before_decays(text, trace):
+    """What the trace says beside them, by the parameters of the scenario."""
+    for it in before_decays(text, trace):
+        yield Score(it["round"], it["at"], it["peer"], it["neighbour"], it["score"])
+
+
 def ends(numbers):
     """The lowest and the highest; None without any."""
     numbers = list(numbers)
@@ -63,7 +69,8 @@ class Figures:
     """A run, and the sheets of it."""
 
     def __init__(self, text, trace, report, scores):
-        self.trace, self.reach, self.scores = trace, Reach(text, trace), list(scores_over_time(scores))
+        self.trace, self.reach = trace, Reach(text, trace)
+        self.scores = [*scores_over_time(scores), *scores_before_decays(text, trace)]
         lines = [it.split(" ") for it in report.splitlines()]
         self.last_scores = [(it[1], it[2], millionths(it[3])) for it in lines if it[0] == "score"]
         self.members = [it[1:] for it in lines if it[0] == "mesh"]  # peer, topic, member
@@ -197,7 +204,8 @@ def figure_choices(names):
     yield from ([], ["--by", "p*"], ["--of", some], ["--of", some, *halves], ["--of", "nobody", *halves])
     yield from ([*mixed, *halves], [*everybody, *halves])
     for subject in SUBJECTS:
-        yield from ([subject], [subject, "--of", some], [*halves, subject, *mixed])
+        yield from ([subject], [subject, "--of", some], [subject, *mixed[2:]])
+    yield [*halves, "--rounds", *mixed[2:]]
 
 
 def figure_differences(run, printed, words):

@@ -142,6 +142,18 @@ def worked_out(scenario, trace):
                 yield from (with_texts(start | it.about(line["at"], other)) for other in it.neighbours)
 
 
+def before_decays(scenario, trace):
+    """What each peer scores its neighbours just before its decays: lines of scores, with the number."""
+    plan = tomllib.loads(scenario)
+    for name in trace.names:
+        it = Scored(plan, name)
+        for line in trace.of(name):
+            if line["event"] == "decay":
+                start = {"round": line["at"] // plan["round_ms"], "at": line["at"], "peer": name}
+                yield from (start | it.about(line["at"], other) for other in it.neighbours)
+            it.see(line)
+
+
 def rows_of(line):
     """The rows of CSV that a line has."""
     start = [str(line["round"]), str(line["at"]), line["peer"], line["event"], line["neighbour"]]

@@ -116,6 +116,11 @@ check_sweep_rows() {
     in_sweeps --seeds 1..2 --peer a --columns messages,messages_pushed,new "$three"
   expect 'a sweep of a peer that publishes nothing' 0 $'messages,pairs,last_round,new\n0,0,,1' '' \
     in_sweeps --peer b --columns messages,pairs,last_round,new "$three"
+  expect 'a sweep of a group' 0 $'messages,messages_pushed,new\n1,2,0' '' \
+    in_sweeps --peer '(a)' --group a=a --columns messages,messages_pushed,new "$three"
+  expect 'a sweep of a group that publishes nothing' 0 $'messages,pairs,new\n0,0,2' '' \
+    in_sweeps --group bc=b,c --peer='(bc)' --columns messages,pairs,new "$three"
+  expect 'a sweep of all peers' 0 $'messages,pairs,new\n1,2,2' '' in_sweeps --peer '(all)' --columns messages,pairs,new "$three"
   expect 'a sweep of a peer that is not there' 1 $'message\nthe scenario has no peer d' \
     'sweep: 1 of 1 runs failed, first the one: the scenario has no peer d' \
     in_sweeps --columns message --peer d "$three"
@@ -199,6 +204,7 @@ check_sweep_arguments() {
   refused_sweep 'a group without peers' \
     '--group takes NAME=PEERS, where NAME has 1 to 32 letters, digits, _ and -, not a' --group a three.toml
   refused_sweep 'a group twice' 'there are two groups a' --group a=a --group a=b three.toml
+  refused_sweep 'a group of the name of all' 'all is all peers, and no name of a group' --group all=a three.toml
   refused_sweep 'too many groups' 'there are at most 16 groups, not 17' \
     "${many[@]}" three.toml
   refused_sweep 'two columns of one name' 'two pairs of groups have columns a_to_b_to_c' \

@@ -60,9 +60,10 @@ is_name_byte byte = (is_ascii_alphanumeric byte || byte == 95) || byte == 45
 abbrev pub are_name_bytes : List ℕ → Bool
 are_name_bytes name = list_all is_name_byte name
 
--- a name has 1 to 32 of them
+-- a name has 1 to 32 of them, and the row of all peers has the name `all`
 abbrev pub is_group_name : List ℕ → Bool
-is_group_name name = (not (length name == 0) && nat_le (length name) 32) && are_name_bytes name
+is_group_name name =
+    ((not (length name == 0) && nat_le (length name) 32) && are_name_bytes name) && not (same_bytes name (codes "all"))
 
 -- the byte of `=`
 abbrev pub is_equals_sign : ℕ → Bool
@@ -149,9 +150,38 @@ asked_from (Some w) (name ∷ []) = with_word w name
 asked_from (Some w) (name ∷ value ∷ more) =
     if is_word name then asked_from (with_word w name) (value ∷ more) else asked_from (with_option w name value) more
 
--- what the arguments ask for: all of a run, as tables, where there are none
+-- `--by` chooses messages, which only the sheets of the run as a whole have
+abbrev pub has_messages : Option Subject → Bool
+has_messages None = true
+has_messages (Some subject.Run) = true
+has_messages (Some subject.Rounds) = false
+has_messages (Some subject.Topics) = false
+has_messages (Some subject.Links) = false
+
+-- the sheets of topics and of links have no groups
+abbrev pub has_groups : Option Subject → Bool
+has_groups None = true
+has_groups (Some subject.Run) = true
+has_groups (Some subject.Rounds) = true
+has_groups (Some subject.Topics) = false
+has_groups (Some subject.Links) = false
+
+abbrev pub is_without : {A : Type 0} → List A → Bool
+is_without [] = true
+is_without (x ∷ xs) = false
+
+-- each of the wishes changes the sheets
+abbrev pub fits : Wishes → Bool
+fits w = (has_messages w.subject || not (is_some w.by)) && (has_groups w.subject || is_without w.groups)
+
+abbrev pub if_fitting : Option Wishes → Option Wishes
+if_fitting None = None
+if_fitting (Some w) = if fits w then Some w else None
+
+-- What the arguments ask for: all of a run, as tables, where there are none. Arguments of which one would change nothing ask
+-- for nothing that there is.
 abbrev pub asked_for : List (List ℕ) → Option Wishes
-asked_for arguments = asked_from (Some no_wish) arguments
+asked_for arguments = if_fitting (asked_from (Some no_wish) arguments)
 
 -- ---- options in any order
 
@@ -165,4 +195,4 @@ is_group_option name = same_bytes name (codes "--group")
 -- what is said where they ask for nothing that there is
 unfoldable pub usage : List ℕ
 usage = codes
-    "usage: gossip_stats [--by PEERS] [--of PEERS] [--group NAME=PEERS].. [--rounds | --topics | --links] [--csv | --json]\n"
+    "usage: gossip_stats [--by PEERS | --rounds | --topics | --links] [--of PEERS] [--group NAME=PEERS].. [--csv | --json]\n"

@@ -1,8 +1,9 @@
 //! What the program's arguments ask for.
-ghost use Rattle.std.specs.Prelude.{◌≡◌, ◌++◌, ◌&&◌, ℕ, [], false, List, Some, map, option_map, string_bytes};
+ghost use Rattle.std.specs.Prelude.{◌≡◌, ◌++◌, ◌&&◌, ℕ, [], false, is_some, List, Some, map, option_map, string_bytes};
 ghost use Rattle.std.specs.Process.{exit_status};
 ghost use Rattle.gs_program.specs.Arguments.{IsRefusedSo, wrong_arguments};
-ghost use Rattle.gossip_stats.specs.Arguments.{Wishes, adding, are_name_bytes, asked_for, asked_from, form_in, group_in, group_of, is_group_name, is_group_option, is_name_byte, is_taken, is_word, no_wish, option_words, subject_in, usage, wishes_of, with_among, with_by, with_form, with_group, with_option, with_subject, with_word};
+ghost use Rattle.gs_figure_sheets.specs.Choices.{spelled};
+ghost use Rattle.gossip_stats.specs.Arguments.{Wishes, adding, are_name_bytes, asked_for, asked_from, fits, form_in, group_in, group_of, has_groups, has_messages, if_fitting, is_group_name, is_group_option, is_name_byte, is_taken, is_without, is_word, no_wish, option_words, subject_in, usage, wishes_of, with_among, with_by, with_form, with_group, with_option, with_subject, with_word};
 
 use arrayvec::ArrayVec;
 use gs_figure_sheets::{Choice, Subject};
@@ -12,7 +13,7 @@ use std::process::ExitCode;
 
 /// How the program is called.
 pub const USAGE: &str =
-    "usage: gossip_stats [--by PEERS] [--of PEERS] [--group NAME=PEERS].. [--rounds | --topics | --links] [--csv | --json]\n";
+    "usage: gossip_stats [--by PEERS | --rounds | --topics | --links] [--of PEERS] [--group NAME=PEERS].. [--csv | --json]\n";
 
 /// How many groups there may be.
 pub const MOST_GROUPS: usize = 16;
@@ -47,11 +48,76 @@ pub struct Asked<'a> {
     pub form: Option<Form>,
 }
 
-/// What the arguments ask for: all of a run, as tables, where there are none. None where they ask for nothing that there is.
+/// What the arguments ask for: all of a run, as tables, where there are none. None where they ask for nothing that there is,
+/// or one of them would change nothing.
 pub fn asked_by(arguments: &[String]) -> Option<Asked<'_>>
     ensures { option_map wishes_of result ≡ asked_for (map string_bytes arguments.now) }
 {
-    asked_from(all_of_it(), arguments)
+    match asked_from(all_of_it(), arguments) {
+        Some(asked) => if_fitting(asked),
+        None => None,
+    }
+}
+
+/// What is asked for, where each part of it changes the sheets.
+fn if_fitting<'a>(asked: Asked<'a>) -> Option<Asked<'a>>
+    ensures { option_map wishes_of result ≡ if_fitting (Some (wishes_of asked.entry)) }
+{
+    if fits(&asked) {
+        return Some(asked);
+    }
+    None
+}
+
+fn fits(asked: &Asked<'_>) -> bool
+    ensures { result ≡ fits (wishes_of asked.now) }
+{
+    (has_messages(asked.subject) || !is_named(asked.by))
+        && (has_groups(asked.subject) || is_without(asked.groups.as_slice()))
+}
+
+fn is_named(choice: Choice<'_>) -> bool
+    ensures { result ≡ is_some (spelled choice) }
+{
+    match choice {
+        Choice::Any => false,
+        Choice::Named(_) => true,
+    }
+}
+
+fn is_without(groups: &[Named<'_>]) -> bool
+    ensures { result ≡ is_without (map group_of groups.now) }
+{
+    match groups {
+        [] => true,
+        [_first, ..] => false,
+    }
+}
+
+/// Whether the sheets of a subject have messages that could be chosen.
+fn has_messages(subject: Option<Subject>) -> bool
+    ensures { result ≡ has_messages subject }
+{
+    match subject {
+        None => true,
+        Some(Subject::Run) => true,
+        Some(Subject::Rounds) => false,
+        Some(Subject::Topics) => false,
+        Some(Subject::Links) => false,
+    }
+}
+
+/// Whether the sheets of a subject have groups.
+fn has_groups(subject: Option<Subject>) -> bool
+    ensures { result ≡ has_groups subject }
+{
+    match subject {
+        None => true,
+        Some(Subject::Run) => true,
+        Some(Subject::Rounds) => true,
+        Some(Subject::Topics) => false,
+        Some(Subject::Links) => false,
+    }
 }
 
 /// Options ask for the same in any order, but for that of groups. The law is about its definitions only, and its function does
@@ -262,11 +328,11 @@ fn group_in(text: &str) -> Option<Named<'_>>
     }
 }
 
-/// Whether a group may have this name.
+/// Whether a group may have this name. The row of all peers has the name `all`.
 fn is_group_name(name: &str) -> bool
     ensures { result ≡ is_group_name name.now }
 {
-    !name.is_empty() && name.len() <= 32 && are_name_bytes(name.as_bytes())
+    !name.is_empty() && name.len() <= 32 && are_name_bytes(name.as_bytes()) && name != "all"
 }
 
 /// Whether each byte may stand in a name. It calls itself 32 times at most, since no name is longer.

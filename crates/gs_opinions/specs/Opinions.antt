@@ -1,4 +1,5 @@
--- What peers score their neighbours, and when: at each heartbeat, decay and shutdown, after what the peer did then.
+-- What peers score their neighbours, and when: at each heartbeat, decay and shutdown, after what the peer did then. A decay
+-- brings counters nearer to 0, so that scores are also looked at just before it.
 use Rattle.std.specs.Prelude.{Bool, true, false, if◌then◌else◌, List, [], ◌∷◌, ◌++◌, filter, map}
 use Rattle.std.specs.List.{flat_map}
 use Rattle.gs_base.specs.declared.names.Millis.{Millis}
@@ -15,19 +16,31 @@ use Rattle.gs_reach.specs.declared.chosen.Chosen.{Chosen}
 use Rattle.gs_reach.specs.Chosen.{is_chosen}
 use Rattle.gs_seats.specs.Rounds.{neighbours, peer_in}
 use Rattle.gs_opinions.specs.declared.opinion.Opinion.{Opinion}
+use Rattle.gs_opinions.specs.declared.traces.Look.{Look}
+use Rattle.gs_opinions.specs.declared.traces.Look.TheVariants.{After, Around, Never}
 
--- scores are looked at after such an event
-abbrev pub is_looked_at : Event → Bool
-is_looked_at BeatBegin = true
-is_looked_at Decay = true
-is_looked_at Shut = true
-is_looked_at (Heard q rpc) = false
-is_looked_at (Late q rpc) = false
-is_looked_at (Part q part) = false
-is_looked_at (Step step) = false
-is_looked_at (Own act) = false
-is_looked_at (Lost q loss) = false
-is_looked_at (RoundEnd r) = false
+-- when scores are looked at, where this happens
+abbrev pub look_at : Event → Look
+look_at BeatBegin = After
+look_at Decay = Around
+look_at Shut = After
+look_at (Heard q rpc) = Never
+look_at (Late q rpc) = Never
+look_at (Part q part) = Never
+look_at (Step step) = Never
+look_at (Own act) = Never
+look_at (Lost q loss) = Never
+look_at (RoundEnd r) = Never
+
+abbrev pub is_before : Look → Bool
+is_before Around = true
+is_before After = false
+is_before Never = false
+
+abbrev pub is_after : Look → Bool
+is_after Around = true
+is_after After = true
+is_after Never = false
 
 -- what a peer scores a neighbour after a trace, the newest entry first
 abbrev pub opinion_of : Plan → PeerNo → Entries → Millis → PeerNo → Opinion
@@ -37,9 +50,16 @@ opinion_of plan p L at q = record { by = p; of = q; score = score (peer_in plan 
 abbrev pub opinions_at : Plan → PeerNo → Entries → Millis → List Opinion
 opinions_at plan p L at = map (opinion_of plan p L at) (neighbours plan p)
 
--- at an entry after a trace
+-- just before an entry after a trace, at its moment
+abbrev pub opinions_before : Plan → PeerNo → Entry → Entries → List Opinion
+opinions_before plan p e L = if is_before (look_at e.event) then opinions_at plan p L e.at else []
+
+-- after it
+abbrev pub opinions_after : Plan → PeerNo → Entry → Entries → List Opinion
+opinions_after plan p e L = if is_after (look_at e.event) then opinions_at plan p (e ∷ L) e.at else []
+
 abbrev pub entry_opinions : Plan → PeerNo → Entry → Entries → List Opinion
-entry_opinions plan p e L = if is_looked_at e.event then opinions_at plan p (e ∷ L) e.at else []
+entry_opinions plan p e L = opinions_before plan p e L ++ opinions_after plan p e L
 
 -- in a trace of a peer, the oldest entry first
 abbrev pub trace_opinions : Plan → PeerNo → Entries → List Opinion

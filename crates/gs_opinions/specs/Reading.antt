@@ -1,9 +1,9 @@
 -- How a peer's trace is read entry by entry.
-use Rattle.std.specs.Prelude.{◌≡◌, List, ◌++◌, reverse}
+use Rattle.std.specs.Prelude.{List, ◌++◌}
 use Rattle.gs_rules.specs.declared.trace.Entry.{Entry}
 use Rattle.gs_rules.specs.Tables.{Entries}
 use Rattle.gs_router.specs.declared.follower.Follower.{Follower}
-use Rattle.gs_router.specs.Following.{Follows, Reading}
+use Rattle.gs_router.specs.Following.{Follows}
 use Rattle.gs_reach.specs.declared.chosen.Chosen.{Chosen}
 use Rattle.gs_seats.specs.Rounds.{peer_in}
 use Rattle.gs_opinions.specs.declared.opinion.Opinion.{Opinion}
@@ -22,11 +22,3 @@ abbrev pub ShowsMore : Judge → Tables → Tables → Entries → Type 0
 ShowsMore judge old new L =
     (groups : List Chosen) (os : List Opinion) → Shows judge.plan.now groups old os
     → Shows judge.plan.now groups new (os ++ trace_opinions judge.plan.now judge.peer L)
-
--- A part of a trace was read, and noted.
-pub record IsRead (judge : Judge) (trace : Entries) (f : Follower) (old new : Tables) : Type 0 where
-  pub view : Reading
-  pub follows : Follows f view
-  pub peer : view.peer ≡ peer_in judge.plan.now judge.peer
-  pub whole : reverse view.left ++ view.before ≡ trace
-  pub shows : ShowsMore judge old new view.before

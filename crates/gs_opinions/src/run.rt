@@ -44,7 +44,7 @@ pub struct RoundOpinions {
 }
 
 /// The lowest opinions of a run. Opinions are what peers score their neighbours at each heartbeat, decay and shutdown,
-/// after what they did then.
+/// after what they did then. A decay brings counters nearer to 0, so what they score just before it counts, too.
 #[derive(Debug, Drop, PartialEq, Eq)]
 pub struct Opinions {
     /// A row for each two peers where the one has an opinion of the other: by the number of the one, and then by that of

@@ -1,16 +1,15 @@
 //! The opinions of a peer, entry by entry of its trace.
-ghost use Rattle.std.specs.Prelude.{◌≡◌, ◌<◌, ◌++◌, ◌∷◌, List, OnOk};
+ghost use Rattle.std.specs.Prelude.{◌≡◌, ◌<◌, ◌++◌, [], ◌∷◌, List, OnOk, reverse};
 ghost use Rattle.gs_plan.specs.Plans.{IsInRange};
-ghost use Rattle.gs_router.specs.Following.{AreInOrder, Follows, Reading};
+ghost use Rattle.gs_router.specs.Following.{AreInOrder};
 ghost use Rattle.gs_rules.specs.Tables.{Entries};
 ghost use Rattle.gs_rules.specs.declared.trace.Entry.{Entry as EntryValue};
 ghost use Rattle.gs_reach.specs.declared.chosen.Chosen.{Chosen as ChosenValue};
 ghost use Rattle.gs_seats.specs.Rounds.{neighbours_in};
 ghost use Rattle.gs_opinions.specs.declared.opinion.Opinion.{Opinion as OpinionValue};
-ghost use Rattle.gs_opinions.specs.declared.tables.Tables.{Tables as TablesValue};
 ghost use Rattle.gs_opinions.specs.Noting.{Shows};
-ghost use Rattle.gs_opinions.specs.Opinions.{entry_opinions, is_looked_at, opinion_of, opinions_at, peer_opinions};
-ghost use Rattle.gs_opinions.specs.Reading.{FollowsPeer, IsRead, ShowsMore};
+ghost use Rattle.gs_opinions.specs.Opinions.{is_after, is_before, look_at, opinion_of, opinions_after, opinions_at, opinions_before, peer_opinions};
+ghost use Rattle.gs_opinions.specs.Reading.{FollowsPeer, ShowsMore};
 
 use crate::opinion::Opinion;
 use crate::tables::Tables;
@@ -29,6 +28,39 @@ struct Judge<'a> {
     peer: PeerNo,
     /// Ascending.
     neighbours: Vec<Neighbour>,
+}
+
+/// When the scores of neighbours are looked at.
+#[derive(Clone, Copy, Debug, PartialEq, Eq)]
+enum Look {
+    /// Not at this event.
+    Never,
+    /// After what the peer did at it.
+    After,
+    /// Just before it, and after what the peer did at it.
+    Around,
+}
+
+impl Look {
+    fn is_before(self) -> bool
+        ensures { result ≡ is_before self }
+    {
+        match self {
+            Look::Around => true,
+            Look::After => false,
+            Look::Never => false,
+        }
+    }
+
+    fn is_after(self) -> bool
+        ensures { result ≡ is_after self }
+    {
+        match self {
+            Look::Never => false,
+            Look::After => true,
+            Look::Around => true,
+        }
+    }
 }
 
 /// Notes all opinions of a peer.
@@ -52,30 +84,51 @@ pub(crate) fn note_peer(
         neighbours,
     };
     let mut follower = follower_of(alloc, plan, *number, &life.trace)?;
-    note_rest(&judge, tables, &mut follower)
+    note_entries(&judge, tables, &mut follower, life.trace.entries())
 }
 
-/// Notes the opinions at the entries that are left of a trace.
-fn note_rest(
+/// Notes the opinions at these entries: all that are left of the peer's trace, of which its reader has seen none.
+fn note_entries(
     judge: &Judge<'_>,
     tables: &mut Tables<'_>,
     follower: &mut Follower<'_>,
+    entries: &[StoredEntry],
 ) -> Result<(), AllocError>
     requires range { 0 < judge.now.plan.now.round_ms }
     requires neighbours { judge.now.neighbours.items ≡ neighbours_in judge.now.plan.now judge.now.peer }
-    requires follows { (v : Reading) × Follows follower.old v }
-    ensures { OnOk result ((trace : Entries) (first : TablesValue)
-        → IsRead judge.now trace follower.old first tables.old
-        → ShowsMore judge.now first tables.new trace) }
+    requires follows { FollowsPeer follower.old judge.now [] entries.now }
+    ensures { OnOk result (ShowsMore judge.now tables.old tables.new (reverse entries.now)) }
 {
-    while let Some(seen) = follower.advance()? {
-        note_entry(judge, tables, follower, seen.entry);
+    for entry in entries {
+        note_before(judge, tables, follower, entry);
+        follower.advance()?;
+        note_after(judge, tables, follower, entry);
     }
     Ok(())
 }
 
-/// Notes the opinions at an entry, the newest that the peer's reader has seen.
-fn note_entry(
+/// Notes the opinions just before an entry, which the peer's reader has not seen yet.
+fn note_before(
+    judge: &Judge<'_>,
+    tables: &mut Tables<'_>,
+    follower: &Follower<'_>,
+    entry: &StoredEntry,
+)
+    requires range { 0 < judge.now.plan.now.round_ms }
+    requires neighbours { judge.now.neighbours.items ≡ neighbours_in judge.now.plan.now judge.now.peer }
+    ensures { (L : Entries) (left : List EntryValue) (groups : List ChosenValue) (os : List OpinionValue)
+        → FollowsPeer follower.now judge.now L left
+        → Shows judge.now.plan.now groups tables.old os
+        → Shows judge.now.plan.now groups tables.new
+        (os ++ opinions_before judge.now.plan.now judge.now.peer entry.now L) }
+{
+    if look_at(entry.event()).is_before() {
+        note_moment(judge, tables, follower, entry.at());
+    }
+}
+
+/// Notes the opinions after an entry, the newest that the peer's reader has seen.
+fn note_after(
     judge: &Judge<'_>,
     tables: &mut Tables<'_>,
     follower: &Follower<'_>,
@@ -87,9 +140,9 @@ fn note_entry(
         → FollowsPeer follower.now judge.now (entry.now ∷ L) left
         → Shows judge.now.plan.now groups tables.old os
         → Shows judge.now.plan.now groups tables.new
-        (os ++ entry_opinions judge.now.plan.now judge.now.peer entry.now L) }
+        (os ++ opinions_after judge.now.plan.now judge.now.peer entry.now L) }
 {
-    if is_looked_at(entry.event()) {
+    if look_at(entry.event()).is_after() {
         note_moment(judge, tables, follower, entry.at());
     }
 }
@@ -123,20 +176,20 @@ fn opinion_of(judge: &Judge<'_>, follower: &Follower<'_>, at: Millis, neighbour:
     }
 }
 
-/// Whether scores are looked at after an event. Each event is named, so that a new one is decided on.
-fn is_looked_at(event: &Event) -> bool
-    ensures { result ≡ is_looked_at event.now }
+/// When scores are looked at. Each event is named, so that a new one is decided on.
+fn look_at(event: &Event) -> Look
+    ensures { result ≡ look_at event.now }
 {
     match event {
-        Event::BeatBegin => true,
-        Event::Decay => true,
-        Event::Shut => true,
-        Event::Heard(_, _) => false,
-        Event::Late(_, _) => false,
-        Event::Part(_, _) => false,
-        Event::Step(_) => false,
-        Event::Own(_) => false,
-        Event::Lost(_, _) => false,
-        Event::RoundEnd(_) => false,
+        Event::BeatBegin => Look::After,
+        Event::Decay => Look::Around,
+        Event::Shut => Look::After,
+        Event::Heard(_, _) => Look::Never,
+        Event::Late(_, _) => Look::Never,
+        Event::Part(_, _) => Look::Never,
+        Event::Step(_) => Look::Never,
+        Event::Own(_) => Look::Never,
+        Event::Lost(_, _) => Look::Never,
+        Event::RoundEnd(_) => Look::Never,
     }
 }

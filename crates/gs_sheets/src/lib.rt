@@ -12,6 +12,3 @@ pub use csv::sheets_csv;
 pub use json::sheets_json;
 pub use sheet::{Column, Row, Sheet, Value, bytes_of};
 pub use tables::sheets_table;
-
-#[cfg(test)]
-mod tests;

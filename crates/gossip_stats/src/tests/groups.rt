@@ -169,7 +169,8 @@ const REJECTED: &str = "round_ms = 100\nrounds = 6\nworkers = 1\ncapacity = 1\ns
     [[do]]\nwhat = \"subscribe\"\nat = 0\npeer = \"b\"\ntopic = \"news\"\n\
     [[do]]\nwhat = \"publish\"\nat = 2\npeer = \"a\"\ntopic = \"news\"\nhex = \"ff01\"\n";
 
-/// Scores are given at heartbeats, at decays and at the shutdown: in rounds 2, 3, 4 and 6.
+/// Scores are looked at after heartbeats, before and after decays, and after the shutdown: in rounds 2, 3, 4 and 6. So round 4
+/// has the -0.5 that its decay ends, and round 6 the -0.125.
 const BY_ROUND: &str = "\
 round=0 rpcs_sent=2 bytes_sent=22 subscription_bytes_sent=20 subscriptions_sent=2 lowest_score= lowest_score_good= \
 lowest_score_bad=
@@ -178,10 +179,10 @@ round=2 rpcs_sent=1 bytes_sent=13 message_bytes_sent=12 messages_pushed=1 delive
 round=3 rpcs_heard=1 rejected=1 payload_bytes_again=2 rpcs_sent=1 bytes_sent=11 control_bytes_sent=10 graft_sent=1 \
 grafted=1 grafted_by_heartbeat=1 largest_mesh=1 lowest_score=-0.500000 lowest_score_bad=-0.500000
 round=4 rpcs_heard=1 graft_heard=1 rpcs_sent=1 bytes_sent=13 control_bytes_sent=12 prune_sent=1 \
-graft_refused_score=1 largest_mesh=1 lowest_score=-0.125000 lowest_score_bad=-0.125000
+graft_refused_score=1 largest_mesh=1 lowest_score=-0.500000 lowest_score_bad=-0.500000
 round=5 rpcs_heard=1 prune_heard=1 pruned=1 pruned_by_neighbour=1 lowest_score= lowest_score_good= lowest_score_bad=
 round=6 rpcs_sent=1 bytes_sent=45 control_bytes_sent=44 ihave_sent=1 ids_offered_sent=1 rpcs_late=1 \
-lowest_score=-0.031250 lowest_score_bad=-0.031250
+lowest_score=-0.125000 lowest_score_bad=-0.125000
 ";
 
 #[test]

@@ -5,7 +5,7 @@ use std::alloc::{AllocError, Global};
 use std::test::*;
 
 const USAGE: &str =
-    "usage: gossip_stats [--by PEERS] [--of PEERS] [--group NAME=PEERS].. [--rounds | --topics | --links] [--csv | --json]\n";
+    "usage: gossip_stats [--by PEERS | --rounds | --topics | --links] [--of PEERS] [--group NAME=PEERS].. [--csv | --json]\n";
 
 /// Arguments, and what they ask for: by whom, of whom, the subject, the form, and the groups.
 struct Case {
@@ -28,7 +28,7 @@ const SEVENTEEN: [&str; 34] = [
     "--group", "p=p", "--group", "q=p",
 ];
 
-static CASES: [Case; 14] = [
+static CASES: [Case; 17] = [
     Case {
         words: &[],
         asked: "Any Any None None",
@@ -66,6 +66,18 @@ static CASES: [Case; 14] = [
         asked: "Any Any None Some(Json) a is x,y* A is y",
     },
     Case {
+        words: &["--rounds", "--of", "y", "--group", "a=x"],
+        asked: "Any Named(\"y\") Some(Rounds) None a is x",
+    },
+    Case {
+        words: &["--of", "y", "--links"],
+        asked: "Any Named(\"y\") Some(Links) None",
+    },
+    Case {
+        words: &["--group", "alls=x", "--group", "All=y", "--by", "z"],
+        asked: "Named(\"z\") Any None None alls is x All is y",
+    },
+    Case {
         words: &["--group", "none="],
         asked: "Any Any None None none is ",
     },
@@ -89,7 +101,7 @@ n is p o is p p is p",
 ];
 
 /// Arguments that ask for nothing that there is.
-static REFUSED: [&[&str]; 31] = [
+static REFUSED: [&[&str]; 38] = [
     &["h1"],
     &[""],
     &["--help"],
@@ -117,6 +129,13 @@ static REFUSED: [&[&str]; 31] = [
     &["--group", "=h1"],
     &["--group", "a b=h1"],
     &["--group", "(all)=h1"],
+    &["--group", "all=h1"],
+    &["--rounds", "--by", "h1"],
+    &["--by", "h1", "--topics"],
+    &["--links", "--by", "h1"],
+    &["--topics", "--group", "a=h1"],
+    &["--group", "a=h1", "--links"],
+    &["--by", "", "--group", "a=h1", "--links"],
     &["--group", "h\u{f6}=h1"],
     &["--group", "abcdefghijklmnopqrstuvwxyz-_01234=x"],
     &["--group", "a=h1", "--rounds", "--group", "a=x"],

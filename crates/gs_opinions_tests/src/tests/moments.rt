@@ -31,14 +31,23 @@ static MOMENTS: [Case; 5] = [
         groups: &[],
         text: "0 1 -10000000 100\nround 0 -\nround 1 -10000000\nround 2 -\nround 3 -\n",
     },
-    // A decay takes half of it first: a quarter is left of -40.
+    // It is -40 just before the decay, which takes half of the counter: a quarter of that is left. At the next two decays
+    // it was -10 and then -2.5 just before.
     Case {
         name: "what happens at a decay itself",
         scenario: PLAIN,
-        lives: &[&[(100, Did::Blames(1, 2)), (100, Did::Decays)], &[]],
+        lives: &[
+            &[
+                (100, Did::Blames(1, 2)),
+                (100, Did::Decays),
+                (200, Did::Decays),
+                (300, Did::Decays),
+            ],
+            &[],
+        ],
         of: None,
         groups: &[],
-        text: "0 1 -10000000 100\nround 0 -\nround 1 -10000000\nround 2 -\nround 3 -\n",
+        text: "0 1 -40000000 100\nround 0 -\nround 1 -40000000\nround 2 -10000000\nround 3 -2500000\n",
     },
     Case {
         name: "the first and the last moment of a round",
@@ -56,7 +65,7 @@ static MOMENTS: [Case; 5] = [
         ],
         of: None,
         groups: &[],
-        text: "0 1 -40000000 199\nround 0 0\nround 1 -40000000\nround 2 -10000000\nround 3 -\n",
+        text: "0 1 -40000000 199\nround 0 0\nround 1 -40000000\nround 2 -40000000\nround 3 -\n",
     },
     // It counts for the two peers, and for no round.
     Case {

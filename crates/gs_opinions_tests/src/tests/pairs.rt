@@ -4,7 +4,7 @@ use crate::tests::made::Did;
 use std::alloc::AllocError;
 
 static PAIRS: [Case; 6] = [
-    // 0, then -40, -10 and -2.5.
+    // 0, then -40, which a decay makes -10, and the next one -2.5.
     Case {
         name: "a score that falls and recovers",
         scenario: PLAIN,
@@ -21,9 +21,9 @@ static PAIRS: [Case; 6] = [
         ],
         of: None,
         groups: &[],
-        text: "0 1 -40000000 150\nround 0 0\nround 1 -40000000\nround 2 -10000000\nround 3 -2500000\n",
+        text: "0 1 -40000000 150\nround 0 0\nround 1 -40000000\nround 2 -40000000\nround 3 -10000000\n",
     },
-    // -40 twice, -10 between them, and -10 again after them.
+    // -40 until the first decay makes it -10, and again until the second one does.
     Case {
         name: "two moments at which it is lowest",
         scenario: PLAIN,
@@ -41,7 +41,7 @@ static PAIRS: [Case; 6] = [
         ],
         of: None,
         groups: &[],
-        text: "0 1 -40000000 110\nround 0 -\nround 1 -40000000\nround 2 -40000000\nround 3 -10000000\n",
+        text: "0 1 -40000000 110\nround 0 -\nround 1 -40000000\nround 2 -40000000\nround 3 -40000000\n",
     },
     // Each of the two directions has its own.
     Case {

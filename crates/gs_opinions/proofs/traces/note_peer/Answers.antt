@@ -1,17 +1,21 @@
-use Rattle.std.proofs.Common.{[], reverse}
+use Rattle.std.proofs.Common.{◌++◌, subst}
 use Rattle.std.proofs.lemmas.Result.{on_ok_weaker}
+use Rattle.gs_rules.specs.Tables.{Entries}
 use Rattle.gs_seats.specs.Rounds.{peer_in}
+use Rattle.gs_opinions.specs.Noting.{Shows}
+use Rattle.gs_opinions.specs.Opinions.{trace_opinions}
 use Rattle.gs_opinions.proofs.Reading.{begun}
 use Rattle.gs_opinions.proofs.traces.note_peer.Goals as goal
 
-pub note_rest-requires-clause-follows : goal.note_rest-requires-clause-follows
-note_rest-requires-clause-follows c =
-    (record { peer = peer_in c.args.plan.now c.args.peer.now.0; before = []; left = reverse c.args.peer.now.1.trace }, c.in_ok-follower.ensures)
+pub note_entries-requires-clause-follows : goal.note_entries-requires-clause-follows
+note_entries-requires-clause-follows c =
+    begun (peer_in c.args.plan.now c.args.peer.now.0) _ _ _ c.entries.ensures c.in_ok-follower.ensures
 
 pub returns : goal.returns
 returns c =
-    let trace = c.args.peer.now.1.trace in
+    let plan = c.args.plan.now in
+    let p = c.args.peer.now.0 in
     on_ok_weaker
-    c.note_rest.result
-    (λ told. told trace c.args.tables.now (begun _ trace _ c.args.tables.now c.in_ok-follower.ensures))
-    c.note_rest.ensures
+    c.note_entries.result
+    (λ told groups os was. subst (λ (L : Entries). Shows plan groups c.note_entries.new.tables (os ++ trace_opinions plan p L)) c.entries.ensures (told groups os was))
+    c.note_entries.ensures

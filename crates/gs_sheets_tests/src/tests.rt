@@ -1,7 +1,6 @@
 //! The texts of two sheets, worked out by hand.
-use crate::sheet::{Column, Row, Sheet, Value, bytes_of};
-use crate::{sheets_csv, sheets_json, sheets_table};
 use gs_base::Seq;
+use gs_sheets::{Column, Row, Sheet, Value, bytes_of, sheets_csv, sheets_json, sheets_table};
 use std::alloc::{AllocError, Global};
 use std::test::*;
 

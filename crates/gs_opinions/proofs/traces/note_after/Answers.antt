@@ -1,25 +1,25 @@
 use Rattle.std.proofs.Common.{Bool, List, ◌≡◌, ◌++◌, ◌∷◌, [], true, false, if◌then◌else◌, append-nil, ap, subst, sym, ◌∙◌}
 use Rattle.gs_opinions.specs.declared.opinion.Opinion.{Opinion}
 use Rattle.gs_opinions.specs.Noting.{Shows}
-use Rattle.gs_opinions.specs.Opinions.{is_looked_at, opinions_at}
-use Rattle.gs_opinions.proofs.traces.note_entry.Goals as goal
+use Rattle.gs_opinions.specs.Opinions.{is_after, look_at, opinions_at}
+use Rattle.gs_opinions.proofs.traces.note_after.Goals as goal
 
-pub returns-then-is_looked_at : goal.returns-then-is_looked_at
-returns-then-is_looked_at c = λ L left groups os follows was.
+pub returns-then-is_after : goal.returns-then-is_after
+returns-then-is_after c = λ L left groups os follows was.
     let judge = c.args.judge.now in
     let plan = judge.plan.now in
     let e = c.args.entry.now in
-    let is : is_looked_at e.event ≡ true = ap is_looked_at (sym c.event.ensures) ∙ sym c.is_looked_at.ensures ∙ c.if-is_looked_at.true in
+    let is : is_after (look_at e.event) ≡ true = ap is_after (ap look_at (sym c.event.ensures) ∙ sym c.look_at.ensures) ∙ sym c.is_after.ensures ∙ c.if-is_after.true in
     subst (λ (xs : List Opinion). Shows plan groups c.note_moment.new.tables (os ++ xs))
     (ap (opinions_at plan judge.peer (e ∷ L)) c.at.ensures ∙ ap (λ (b : Bool). if b then opinions_at plan judge.peer (e ∷ L) e.at else []) (sym is))
     (c.note_moment.ensures (e ∷ L) left groups os follows was)
 
-pub returns-else-is_looked_at : goal.returns-else-is_looked_at
-returns-else-is_looked_at c = λ L left groups os follows was.
+pub returns-else-is_after : goal.returns-else-is_after
+returns-else-is_after c = λ L left groups os follows was.
     let judge = c.args.judge.now in
     let plan = judge.plan.now in
     let e = c.args.entry.now in
-    let is : is_looked_at e.event ≡ false = ap is_looked_at (sym c.event.ensures) ∙ sym c.is_looked_at.ensures ∙ c.if-is_looked_at.false in
+    let is : is_after (look_at e.event) ≡ false = ap is_after (ap look_at (sym c.event.ensures) ∙ sym c.look_at.ensures) ∙ sym c.is_after.ensures ∙ c.if-is_after.false in
     subst (λ (xs : List Opinion). Shows plan groups c.args.tables.now xs)
     (sym (append-nil os) ∙ ap (λ (b : Bool). os ++ (if b then opinions_at plan judge.peer (e ∷ L) e.at else [])) (sym is))
     was
