@@ -44,7 +44,7 @@ def scores_over_time(lines):
 
 
 def scores_before_decays(text, trace):
-    """What the trace says beside them, by the parameters of the scenario."""
+    """What the trace adds to them, by the parameters of the scenario."""
     for it in before_decays(text, trace):
         yield Score(it["round"], it["at"], it["peer"], it["neighbour"], it["score"])
 
