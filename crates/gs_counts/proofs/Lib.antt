@@ -18,3 +18,10 @@ mod Listing
 mod Whole
 mod ByTopic
 mod OneEnd
+mod Adding
+mod OtherKinds
+mod OnePeer
+mod Came
+mod Framed
+mod Went
+mod Exchanged

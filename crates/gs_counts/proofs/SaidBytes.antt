@@ -122,7 +122,7 @@ gathers (v ∷ vs) o =
     ∙ (three (said_length o) (frames_length (gather codec o.gathered v).0) (frames_length (let_out (gather codec o.gathered v).1 vs))
     ∙ ap (λ (k : ℕ). said_length o + k) (sym (frames_both (gather codec o.gathered v).0 (let_out (gather codec o.gathered v).1 vs)))))
 
-held_is : (vs : List Rpc) (o : Outgoing) → (sending_all codec o vs).gathered ≡ held_after o.gathered vs
+pub held_is : (vs : List Rpc) (o : Outgoing) → (sending_all codec o vs).gathered ≡ held_after o.gathered vs
 held_is [] o = refl
 held_is (v ∷ vs) o = held_is vs (sending codec o v)
 
@@ -134,7 +134,7 @@ lost_silent : (is : Bool) → bytes_of (if is then Close ∷ [] else []) ≡ []
 lost_silent true = refl
 lost_silent false = refl
 
-sign_silent : (q : PeerNo) (event : Event) → bytes_of (sign q event) ≡ []
+pub sign_silent : (q : PeerNo) (event : Event) → bytes_of (sign q event) ≡ []
 sign_silent q (RoundEnd r) = refl
 sign_silent q Shut = refl
 sign_silent q other = lost_silent (is_lost q (lost other))

@@ -17,3 +17,4 @@ pub mod Sums
 pub mod Reading
 pub mod Listing
 pub mod Runs
+pub mod Exchanges

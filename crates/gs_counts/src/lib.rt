@@ -4,6 +4,7 @@
 
 mod changes;
 mod counts;
+mod exchange;
 mod fate;
 mod happening;
 mod heard;
@@ -23,6 +24,9 @@ mod traces;
 mod verdicts;
 
 pub use counts::{Counts, no_counts};
+pub use exchange::{
+    rpcs_that_are_counted_are_said, rpcs_that_are_handled_came, rpcs_that_were_sent_came,
+};
 pub use fate::Fate;
 pub use happening::Happening;
 pub use kind::Kind;
