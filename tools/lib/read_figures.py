@@ -10,6 +10,7 @@ from read_scores import before_decays, shown
 
 SUBJECTS = "--rounds", "--topics", "--links"
 SHARES = {"median_round": 50, "round_90": 90, "last_round": 100}
+OF_SENDERS = "rpcs_sent", "bytes_sent", "mesh_members", "mesh_places"
 
 # What is asked for: PEERS or None, groups as (NAME, PEERS), and the sheet instead of the ordinary ones.
 Wanted = collections.namedtuple("Wanted", "by of groups subject")
@@ -117,7 +118,7 @@ class Sheets:
     def peer_row(self, name, members, counts):
         row = {"peer": name}
         for column in COUNTS:
-            row[column] = sum(counts[it][column] for it in members)
+            row[column] = sum(counts[it][column] for it in members) if members else None
         row["smallest_mesh"], row["largest_mesh"] = ends(size for it, end, size in self.sizes if end is None and it in members)
         low, high = ends(amount for _, it, amount in self.last_scores if it in members)
         row["lowest_score"], row["highest_score"] = as_score(low), as_score(high)
@@ -140,6 +141,8 @@ class Sheets:
         row |= {column: sum(links[it][column] for it in between) for column in ("rpcs_sent", "bytes_sent")}
         held = [it for it in self.run.members if it[0] in senders and it[0] in self.of]
         row |= {"mesh_members": sum(it[2] in others for it in held), "mesh_places": len(held)}
+        if not senders & self.of:
+            row |= dict.fromkeys(OF_SENDERS)  # (of nobody nothing is known)
         last = (amount for by, it, amount in self.last_scores if by in senders and it in others)
         row["lowest_score"] = as_score(min(last, default=None))
         row["lowest_in_run"], row["lowest_at_ms"] = lowest_of(it for it in self.scores if it.by in senders and it.of in others)

@@ -28,8 +28,10 @@ def at_share(rounds, percent):
 
 
 def share_of(part, all_of_them):
-    """Per cent with two digits, rounded down."""
-    share = part * 10_000 // all_of_them if all_of_them else 0
+    """Per cent with two digits, rounded down. None where there is nothing to share."""
+    if not all_of_them:
+        return None
+    share = part * 10_000 // all_of_them
     return f"{share // 100}.{share % 100:02}"
 
 
@@ -112,10 +114,12 @@ class Reach:
     def message_rows(self, by, of):
         for (at, topic, payload), publishers, found in self.messages(by, of):
             rounds = list(found.values())
-            missed = rounds.count(NEVER)
+            reached, verdict = len(rounds) - rounds.count(NEVER), self.verdict(topic, payload)
+            # (what is not accepted should reach nobody, so nobody missed it)
+            missed = len(rounds) - reached if verdict == "accept" else None
             shares = [at_share(rounds, it) for it in (0, 50, 90, 100)]
-            head = [topic, payload, publishers[0], self.verdict(topic, payload), len({*publishers}), at]
-            yield dict(zip(MESSAGES, head + [len(rounds), len(rounds) - missed, missed, *shares]))
+            head = [topic, payload, publishers[0], verdict, len({*publishers}), at]
+            yield dict(zip(MESSAGES, head + [len(rounds), reached, missed, *shares]))
 
     def sheets(self, by=None, of=None):
         """The rows of the three sheets, by their names."""

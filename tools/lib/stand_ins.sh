@@ -175,8 +175,8 @@ check_unproved() {
   expect 'scores of no neighbour' 64 '' 'gossip_scores: --neighbour takes a value; --help says more' tried_scores --neighbour
   expect_like 'figures among some' 0 'gossip_stats --by h* --of h1,x --json scenario' '*' \
     tried_figures --by 'h*' --of=h1,x --json
-  expect_like 'figures of groups' 0 'gossip_stats --group honest=h* --group x=x=y --links scenario' '*' \
-    tried_figures --group 'honest=h*' --group=x=x=y --links
+  expect_like 'figures of groups' 0 'gossip_stats --group honest=h* --group x=x=y --rounds scenario' '*' \
+    tried_figures --group 'honest=h*' --group=x=x=y --rounds
   expect_like 'figures of nobody' 0 'gossip_stats --by  --group none= scenario' '*' tried_figures --by '' --group none=
   expect 'figures of no value' 64 '' 'gossip_stats: --of takes a value; --help says more' tried_figures --of
   expect 'figures of no group' 64 '' 'gossip_stats: --group takes a value; --help says more' tried_figures --csv --group

@@ -97,12 +97,13 @@ listed() {
 }
 
 # The payload goes from `a` to both members of `bc`, and of their meshes each has a place for `a` once there was a heartbeat.
+# No message goes from `bc` to `a`, so there is no share.
 group_columns=messages,a_to_bc_pairs,a_to_bc_reached,bc_to_a_pairs,bc_to_a_mesh_members,bc_to_a_mesh_places
-group_columns+=,a_to_bc_share,a_to_bc_lowest_at_ms
+group_columns+=,a_to_bc_share,bc_to_a_share,a_to_bc_lowest_at_ms
 group_rows() {
   echo "params.heartbeat_ms,$group_columns"
-  echo 1000,1,2,2,0,2,4,100.00,1000
-  echo 2000,1,2,2,0,0,0,100.00,1000
+  echo 1000,1,2,2,0,2,4,100.00,,1000
+  echo 2000,1,2,2,0,0,0,100.00,,1000
 }
 
 check_sweep_rows() {
@@ -129,6 +130,8 @@ check_sweep_rows() {
     in_sweeps --columns message --peer a --of b,c "$three"
   expect 'a sweep by some, of others' 0 $'messages,pairs,new\n0,0,1' '' \
     in_sweeps --by 'b,c' --of c --columns messages,pairs,new "$three"
+  expect 'a sweep of nobody' 0 $'messages,pairs,new\n1,0,' '' \
+    in_sweeps --of nobody --columns messages,pairs,new "$three"
   expect 'a sweep of groups' 0 "$(group_rows)" '' in_sweeps --set params.heartbeat_ms=1000,2000 "${groups[@]}" \
     --columns "$group_columns" "$three"
   expect 'a sweep of a cut scenario' 0 $'seed,messages,new\n1,0,0\n2,0,0' '' \
@@ -236,6 +239,8 @@ check_joined_rows() {
     in_sweeps "${beats[@]}" --over params.heartbeat_ms --table "${columns[@]}"
   expect 'joined rows of a peer, cut' 0 $'runs  failed        messages\n   2       0  0 ± 0 (0 to 0)' '' \
     in_sweeps --seeds 1..2 --over seed --peer a --until 11 --columns messages --table three.toml
+  expect 'joined rows of nobody' 0 $'runs  failed           pairs  new\n   2       0  0 ± 0 (0 to 0)    -' '' \
+    in_sweeps --seeds 1..2 --over seed --of nobody --columns pairs,new --table three.toml
   expect 'a list of commands for joined rows' 0 "$(in_sweeps --list --seeds 1..2 "${columns[@]}")" '' \
     in_sweeps --list --seeds 1..2 --over seed --table "${columns[@]}"
   expect 'joined rows to a closed output' 3 '' 'sweep: output failed' \

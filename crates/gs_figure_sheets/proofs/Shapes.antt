@@ -45,7 +45,7 @@ use Rattle.gs_figure_sheets.specs.Wishes.{Wishes}
 -- ---- lists
 
 -- what holds of each of two lists holds of each of both
-both : {A : Type 0} (P : A → Type 0) (xs ys : List A) → AllByRecursion P xs → AllByRecursion P ys → AllByRecursion P (xs ++ ys)
+pub both : {A : Type 0} (P : A → Type 0) (xs ys : List A) → AllByRecursion P xs → AllByRecursion P ys → AllByRecursion P (xs ++ ys)
 both P [] ys one other = other
 both P (x ∷ xs) ys one other = (one.0, both P xs ys one.1 other)
 
@@ -55,7 +55,7 @@ of_all P f each [] = tt
 of_all P f each (x ∷ xs) = both P (f x) (flat_map f xs) (each x) (of_all P f each xs)
 
 -- what holds of what anything is mapped to
-mapped : {A B : Type 0} (P : B → Type 0) (f : A → B) → ((x : A) → P (f x)) → (xs : List A) → AllByRecursion P (map f xs)
+pub mapped : {A B : Type 0} (P : B → Type 0) (f : A → B) → ((x : A) → P (f x)) → (xs : List A) → AllByRecursion P (map f xs)
 mapped P f each xs = each_mapped P f xs (of_each (λ x. P (f x)) each xs)
 
 -- ---- sheets of figures

@@ -62,11 +62,11 @@ header_text From = codes "from"
 header_text To = codes "to"
 header_text Rpcs = codes "RPCs"
 header_text Bytes = codes "bytes"
-header_text MeshMembers = codes "in meshes"
-header_text MeshPlaces = codes "of places"
+header_text MeshMembers = codes "mesh places held"
+header_text MeshPlaces = codes "mesh places"
 header_text LowestScore = codes "lowest score"
 header_text LowestInRun = codes "lowest in run"
-header_text LowestAt = codes "at_ms"
+header_text LowestAt = codes "lowest at ms"
 
 abbrev pub column_of : Column → SheetColumn
 column_of column = record { name = column_name column; header = header_text column }

@@ -1,5 +1,5 @@
 -- What passes from group to group, as a sheet.
-use Rattle.std.specs.Prelude.{codes, List, [], ◌∷◌, ◌++◌, length, map, Option}
+use Rattle.std.specs.Prelude.{ℕ, Bool, false, ◌==◌, if◌then◌else◌, codes, List, [], ◌∷◌, ◌++◌, length, map, Option}
 use Rattle.std.specs.List.{flat_map}
 use Rattle.gs_base.specs.declared.names.PeerNo.{PeerNo}
 use Rattle.gs_counts.specs.declared.kind.Kind.TheVariants.{RpcsSent, BytesSent}
@@ -7,7 +7,8 @@ use Rattle.gs_counts.specs.declared.run.LinkCounts.{LinkCounts}
 use Rattle.gs_counts.specs.declared.span.Span.{Span}
 use Rattle.gs_opinions.specs.declared.opinion.Lowest.{Lowest}
 use Rattle.gs_opinions.specs.declared.run.PairOpinion.{PairOpinion}
-use Rattle.gs_reach.specs.declared.chosen.Chosen.TheVariants.{Any}
+use Rattle.gs_reach.specs.declared.chosen.Chosen.{Chosen}
+use Rattle.gs_reach.specs.declared.chosen.Chosen.TheVariants.{Any, Only}
 use Rattle.gs_reach.specs.declared.messages.MessageReach.{MessageReach}
 use Rattle.gs_reach.specs.declared.pairs.Pair.{Pair}
 use Rattle.gs_reach.specs.declared.spread.Spread.{Spread}
@@ -16,12 +17,12 @@ use Rattle.gs_reach.specs.Reached.{missed, reached, spread}
 use Rattle.gs_report.specs.declared.finished.Finished.{Finished}
 use Rattle.gs_sheets.specs.declared.sheet.Sheet.{Sheet}
 use Rattle.gs_sheets.specs.declared.sheet.Value.{Value}
-use Rattle.gs_sheets.specs.declared.sheet.Value.TheVariants.{Name, Count, Share}
+use Rattle.gs_sheets.specs.declared.sheet.Value.TheVariants.{Name, Count, Missing}
 use Rattle.gs_figure_sheets.specs.declared.groups.Dealings.{Dealings}
 use Rattle.gs_figure_sheets.specs.declared.party.Party.{Party}
 use Rattle.gs_figure_sheets.specs.Between.{lowest_between, over_between, places_between, span_between}
 use Rattle.gs_figure_sheets.specs.Columns.{column_of, group_columns}
-use Rattle.gs_figure_sheets.specs.Reach.{count_or_none, share_of}
+use Rattle.gs_figure_sheets.specs.Reach.{count_or_none, share_of, share_or_none}
 use Rattle.gs_figure_sheets.specs.Rows.{lowest_in, moment_of, score_of, score_or_none}
 
 -- what rows of groups are made of
@@ -37,20 +38,32 @@ dealt_of d = record { messages = d.messages.now; links = d.links.now; peers = d.
 -- how many subscribers could be reached, were reached and were missed, and in how many rounds parts of them were reached
 abbrev pub pair_values : List Pair → List Value
 pair_values pairs =
-    Count (length pairs) ∷ Count (reached pairs) ∷ Count (missed pairs) ∷ Share (share_of (reached pairs) (length pairs)) ∷ []
+    Count (length pairs) ∷ Count (reached pairs) ∷ Count (missed pairs)
+    ∷ share_or_none (share_of (reached pairs) (length pairs)) ∷ []
 
 abbrev pub spread_values : Spread → List Value
 spread_values s = count_or_none s.median ∷ count_or_none s.ninetieth ∷ count_or_none s.last ∷ []
 
+-- no peer is chosen
+abbrev pub is_nobody : Chosen → Bool
+is_nobody Any = false
+is_nobody (Only peers) = length peers == 0
+
+-- what these peers did: of nobody nothing is known, not even that it is 0
+abbrev pub count_by : Chosen → ℕ → Value
+count_by by n = if is_nobody by then Missing else Count n
+
 -- what goes over links from one group to another
 abbrev pub sent_values : List LinkCounts → Party → Party → List Value
 sent_values links from to =
-    Count (over_between from.told to.peers RpcsSent links) ∷ Count (over_between from.told to.peers BytesSent links) ∷ []
+    count_by from.told (over_between from.told to.peers RpcsSent links)
+    ∷ count_by from.told (over_between from.told to.peers BytesSent links) ∷ []
 
 -- how many places the meshes of one group have for another, and in all
 abbrev pub mesh_values : List (PeerNo × Finished) → Party → Party → List Value
 mesh_values peers from to =
-    Count (places_between from.told to.peers peers) ∷ Count (places_between from.told Any peers) ∷ []
+    count_by from.told (places_between from.told to.peers peers)
+    ∷ count_by from.told (places_between from.told Any peers) ∷ []
 
 -- the lowest score that one group gives another at the end, and over the run
 abbrev pub score_values : Option Span → Option Lowest → List Value

@@ -29,7 +29,7 @@ use Rattle.gs_figure_sheets.specs.Between.{end_meshes, lowest_between, only_by, 
 use Rattle.gs_figure_sheets.specs.Rows.{joined_of, only_counts}
 
 -- a row that says nothing of groups
-abbrev pub line_of : List Label → RowFigures → Line
+abbrev pub line_of : List Label → Option RowFigures → Line
 line_of labels figures = record { labels = labels; figures = figures; groups = [] }
 
 -- ---- peers
@@ -65,17 +65,17 @@ abbrev pub figures_of_peers : Known → Chosen → List (PeerNo × Finished) →
 figures_of_peers known among peers = map (peer_figures known among peers) (only_by among peers)
 
 -- a row that is of a name
-abbrev pub named_line : List ℕ → RowFigures → Line
+abbrev pub named_line : List ℕ → Option RowFigures → Line
 named_line name figures = line_of (Named name ∷ []) figures
 
 abbrev pub peer_line : Plan → PeerFigures → Line
-peer_line plan row = named_line (name_of plan row.peer) row.figures
+peer_line plan row = named_line (name_of plan row.peer) (Some row.figures)
 
--- a group's rows in one
+-- a group's rows in one, where it has some
 abbrev pub party_line : List PeerFigures → Party → Line
 party_line rows g = named_line (codes "(" ++ g.name ++ codes ")") (joined_of g.told rows)
 
--- the rows of all in one
+-- the rows of all in one, where there are some
 abbrev pub all_line : List PeerFigures → Line
 all_line rows = named_line (codes "(all)") (joined_of Any rows)
 
@@ -106,12 +106,12 @@ round_figures x scores = record {
 abbrev pub round_with : RoundCounts → RoundOpinions → Line
 round_with x given = record {
   labels = Numbered x.round ∷ [];
-  figures = round_figures x (option_map point given.lowest);
+  figures = Some (round_figures x (option_map point given.lowest));
   groups = given.groups;
 }
 
 abbrev pub round_without : RoundCounts → Line
-round_without x = line_of (Numbered x.round ∷ []) (round_figures x None)
+round_without x = line_of (Numbered x.round ∷ []) (Some (round_figures x None))
 
 abbrev pub round_line : Opinions → RoundCounts → Line
 round_line opinions x = elim (opinions_in opinions x.round) [ None ↦ round_without x | Some given ↦ round_with x given ]
@@ -119,10 +119,10 @@ round_line opinions x = elim (opinions_in opinions x.round) [ None ↦ round_wit
 -- ---- topics and links
 
 abbrev pub topic_line : TopicCounts → Line
-topic_line x = named_line x.topic.0 (only_counts x.counts)
+topic_line x = named_line x.topic.0 (Some (only_counts x.counts))
 
 abbrev pub link_line : Plan → LinkCounts → Line
-link_line plan x = line_of (Named (name_of plan x.from) ∷ Named (name_of plan x.to) ∷ []) (only_counts x.counts)
+link_line plan x = line_of (Named (name_of plan x.from) ∷ Named (name_of plan x.to) ∷ []) (Some (only_counts x.counts))
 
 -- those with an end whose trace counts
 abbrev pub links_at : Chosen → List LinkCounts → List LinkCounts

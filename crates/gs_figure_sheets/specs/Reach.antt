@@ -10,7 +10,7 @@ use Rattle.gs_reach.specs.declared.distribution.Distribution.{Distribution}
 use Rattle.gs_reach.specs.declared.distribution.Within.{Within}
 use Rattle.gs_reach.specs.declared.messages.MessageReach.{MessageReach}
 use Rattle.gs_reach.specs.declared.spread.Spread.{Spread}
-use Rattle.gs_reach.specs.Chosen.{accepted_pairs, chosen_messages}
+use Rattle.gs_reach.specs.Chosen.{accepted_pairs, chosen_messages, is_accepted}
 use Rattle.gs_reach.specs.Messages.{messages}
 use Rattle.gs_reach.specs.Reached.{distribution, missed, reached, spread}
 use Rattle.gs_sheets.specs.declared.sheet.Sheet.{Sheet}
@@ -32,9 +32,14 @@ abbrev pub count_or_none : Option ℕ → Value
 count_or_none None = Missing
 count_or_none (Some n) = Count n
 
--- a part of a number in hundredths of a per cent, rounded down, and 0 of none
-abbrev pub share_of : ℕ → ℕ → ℕ
-share_of part all = if all == 0 then 0 else min 10_000 (part * 10_000 / all)
+-- a share that may be absent
+abbrev pub share_or_none : Option ℕ → Value
+share_or_none None = Missing
+share_or_none (Some n) = Share n
+
+-- a part of a number in hundredths of a per cent, rounded down: none where there is nothing to share
+abbrev pub share_of : ℕ → ℕ → Option ℕ
+share_of part all = if all == 0 then None else Some (min 10_000 (part * 10_000 / all))
 
 -- ---- rows
 
@@ -44,11 +49,15 @@ message_names plan m =
     Name m.publication.topic.0 ∷ Payload m.publication.payload ∷ Name (name_of plan m.publication.peer)
     ∷ Name (verdict_word m.verdict) ∷ []
 
+-- how many it missed: none where it should reach nobody, since validation does not accept it
+abbrev pub missed_by : MessageReach → Option ℕ
+missed_by m = if is_accepted m.verdict then Some (missed m.pairs) else None
+
 -- how many published it, when, how many could be reached, were reached and were missed
 abbrev pub message_counts : MessageReach → List Value
 message_counts m =
     Count m.publishers ∷ Count m.publication.at.0 ∷ Count (length m.pairs) ∷ Count (reached m.pairs)
-    ∷ Count (missed m.pairs) ∷ []
+    ∷ count_or_none (missed_by m) ∷ []
 
 -- in how many rounds the first, half, 90 in a hundred and all of them were
 abbrev pub message_rounds : Spread → List Value
@@ -60,7 +69,7 @@ message_row plan m = message_names plan m ++ message_counts m ++ message_rounds 
 
 -- how many pairs an outcome has, within a number of rounds where it is a limit, and their share of all
 abbrev pub outcome_row : List ℕ → Value → ℕ → ℕ → List Value
-outcome_row word limit part all = Name word ∷ limit ∷ Count part ∷ Share (share_of part all) ∷ []
+outcome_row word limit part all = Name word ∷ limit ∷ Count part ∷ share_or_none (share_of part all) ∷ []
 
 abbrev pub within_row : ℕ → Within → List Value
 within_row all w = outcome_row (codes "reached") (Count w.limit) w.reached all

@@ -1,5 +1,6 @@
 -- What stands in a row of figures, and the sums of several rows.
 use Rattle.std.specs.Prelude.{ℕ, ℤ, int_lt, nat_lt, not, ◌&&◌, ◌||◌, Bool, if◌then◌else◌, List, ◌++◌, filter, fold, map, Option, None, Some, slice_get, unwrap_or}
+use Rattle.std.specs.List.{list_any}
 use Rattle.gs_counts.specs.declared.counts.Counts.{Counts}
 use Rattle.gs_counts.specs.declared.span.Span.{Span}
 use Rattle.gs_counts.specs.Meshes.{widened}
@@ -50,18 +51,22 @@ moment_of (Some lowest) = Some lowest.at.0
 abbrev pub score_at : List (Option ℤ) → ℕ → Option ℤ
 score_at scores place = unwrap_or (slice_get scores place) None
 
--- what stands in a row for a figure
+-- what stands for a figure of these, with the lowest scores of groups
+abbrev pub value_in : RowFigures → List (Option ℤ) → Figure → Value
+value_in figures groups (Of kind) = Count (count_at figures.counts kind)
+value_in figures groups BytesHeard = Count figures.bytes_heard
+value_in figures groups RawBytesHeard = Count figures.raw_bytes_heard
+value_in figures groups SmallestMesh = whole_or_none (lowest_in figures.meshes)
+value_in figures groups LargestMesh = whole_or_none (highest_in figures.meshes)
+value_in figures groups LowestScore = score_or_none (lowest_in figures.scores)
+value_in figures groups HighestScore = score_or_none (highest_in figures.scores)
+value_in figures groups LowestInRun = score_or_none (score_of figures.lowest)
+value_in figures groups LowestAt = count_or_none (moment_of figures.lowest)
+value_in figures groups (LowestOf place) = score_or_none (score_at groups place)
+
+-- what stands in a row for a figure: nothing where the row is of nobody
 abbrev pub value_of : Line → Figure → Value
-value_of line (Of kind) = Count (count_at line.figures.counts kind)
-value_of line BytesHeard = Count line.figures.bytes_heard
-value_of line RawBytesHeard = Count line.figures.raw_bytes_heard
-value_of line SmallestMesh = whole_or_none (lowest_in line.figures.meshes)
-value_of line LargestMesh = whole_or_none (highest_in line.figures.meshes)
-value_of line LowestScore = score_or_none (lowest_in line.figures.scores)
-value_of line HighestScore = score_or_none (highest_in line.figures.scores)
-value_of line LowestInRun = score_or_none (score_of line.figures.lowest)
-value_of line LowestAt = count_or_none (moment_of line.figures.lowest)
-value_of line (LowestOf place) = score_or_none (score_at line.groups place)
+value_of line figure = elim line.figures [ None ↦ Missing | Some figures ↦ value_in figures line.groups figure ]
 
 abbrev pub label_value : Label → Value
 label_value (labels.Named name) = Name name
@@ -121,6 +126,14 @@ joined a b = record {
 }
 
 -- those of these peers that are chosen, in one
-abbrev pub joined_of : Chosen → List PeerFigures → RowFigures
-joined_of chosen rows =
+abbrev pub sum_of : Chosen → List PeerFigures → RowFigures
+sum_of chosen rows =
     fold (λ sum (row : PeerFigures). joined sum row.figures) no_figures (filter (λ (row : PeerFigures). is_chosen chosen row.peer) rows)
+
+-- some of these peers are chosen
+abbrev pub has_chosen : Chosen → List PeerFigures → Bool
+has_chosen chosen rows = list_any (λ (row : PeerFigures). is_chosen chosen row.peer) rows
+
+-- the same in one, where there are some: of nobody nothing is known, not even that it is 0
+abbrev pub joined_of : Chosen → List PeerFigures → Option RowFigures
+joined_of chosen rows = if has_chosen chosen rows then Some (sum_of chosen rows) else None

@@ -131,11 +131,11 @@ fn header_text(column: Column) -> &'static str
         Column::To => "to",
         Column::Rpcs => "RPCs",
         Column::Bytes => "bytes",
-        Column::MeshMembers => "in meshes",
-        Column::MeshPlaces => "of places",
+        Column::MeshMembers => "mesh places held",
+        Column::MeshPlaces => "mesh places",
         Column::LowestScore => "lowest score",
         Column::LowestInRun => "lowest in run",
-        Column::LowestAt => "at_ms",
+        Column::LowestAt => "lowest at ms",
     }
 }
 

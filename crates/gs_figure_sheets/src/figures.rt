@@ -1,7 +1,7 @@
 //! What stands in rows of figures, and the sums of several rows.
 ghost use Rattle.std.specs.Prelude.{◌≡◌, ◌++◌, ◌∷◌, [], fold, IfOk, map, OnOk};
 ghost use Rattle.gs_figure_sheets.specs.Lines.{line_of};
-ghost use Rattle.gs_figure_sheets.specs.Rows.{highest_in, joined, joined_of, label_value, line_row, lowest_in, moment_of, no_figures, only_counts, score_at, score_of, score_or_none, value_of, whole_or_none};
+ghost use Rattle.gs_figure_sheets.specs.Rows.{has_chosen, highest_in, joined, joined_of, label_value, line_row, lowest_in, moment_of, no_figures, only_counts, score_at, score_of, score_or_none, sum_of, value_in, value_of, whole_or_none};
 
 use crate::figure::Figure;
 use crate::rows::count_or_none;
@@ -47,14 +47,15 @@ pub enum Label {
 #[derive(Debug, Drop)]
 pub struct Line {
     pub labels: Seq<Label>,
-    pub figures: RowFigures,
+    /// None where the row is of nobody: then not even a count is known.
+    pub figures: Option<RowFigures>,
     /// The lowest score that is given one of each group, where the row says it.
     pub groups: Seq<Option<i128>>,
 }
 
 impl Line {
     /// A row that says nothing of groups.
-    pub(crate) fn of(alloc: Global, labels: Seq<Label>, figures: RowFigures) -> Line
+    pub(crate) fn of(alloc: Global, labels: Seq<Label>, figures: Option<RowFigures>) -> Line
         ensures { result ≡ line_of labels figures }
     {
         Line {
@@ -102,9 +103,26 @@ impl RowFigures {
     }
 }
 
-/// The figures of those of these peers that are chosen, in one.
-pub(crate) fn joined_of(chosen: &Chosen, rows: &[PeerFigures]) -> RowFigures
+/// The figures of those of these peers that are chosen, in one. None where none of them is.
+pub(crate) fn joined_of(chosen: &Chosen, rows: &[PeerFigures]) -> Option<RowFigures>
     ensures { result ≡ joined_of chosen.now rows.now }
+{
+    if has_chosen(chosen, rows) {
+        return Some(sum_of(chosen, rows));
+    }
+    None
+}
+
+/// Whether some of these peers are chosen.
+fn has_chosen(chosen: &Chosen, rows: &[PeerFigures]) -> bool
+    ensures { result ≡ has_chosen chosen.now rows.now }
+{
+    rows.iter().any(|row| chosen.contains(row.peer))
+}
+
+/// The figures of those of these peers that are chosen, in one.
+fn sum_of(chosen: &Chosen, rows: &[PeerFigures]) -> RowFigures
+    ensures { result ≡ sum_of chosen.now rows.now }
 {
     let mut sum = no_figures();
     for row in rows {
@@ -181,11 +199,20 @@ fn score_at(scores: &[Option<i128>], place: usize) -> Option<i128>
     }
 }
 
-/// What stands in a row for a figure.
+/// What stands in a row for a figure. Nothing does where the row is of nobody.
 fn value_of(line: &Line, figure: Figure) -> Value
     ensures { result ≡ value_of line.now figure }
 {
-    let figures = &line.figures;
+    match &line.figures {
+        Some(figures) => value_in(figures, line.groups.as_slice(), figure),
+        None => Value::Missing,
+    }
+}
+
+/// What stands for a figure of these, with the lowest scores of groups.
+fn value_in(figures: &RowFigures, groups: &[Option<i128>], figure: Figure) -> Value
+    ensures { result ≡ value_in figures.now groups.now figure }
+{
     match figure {
         Figure::Of(kind) => Value::Count(figures.counts.of(kind)),
         Figure::BytesHeard => Value::Count(figures.bytes_heard),
@@ -196,7 +223,7 @@ fn value_of(line: &Line, figure: Figure) -> Value
         Figure::HighestScore => score_or_none(highest_in(&figures.scores)),
         Figure::LowestInRun => score_or_none(score_of(&figures.lowest)),
         Figure::LowestAt => count_or_none(moment_of(&figures.lowest)),
-        Figure::LowestOf(place) => score_or_none(score_at(line.groups.as_slice(), place)),
+        Figure::LowestOf(place) => score_or_none(score_at(groups, place)),
     }
 }
 

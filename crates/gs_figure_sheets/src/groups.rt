@@ -2,13 +2,13 @@
 ghost use Rattle.std.specs.Prelude.{◌≡◌, [], ◌∷◌, ◌++◌, IfOk, map, OnOk};
 ghost use Rattle.std.specs.List.{flat_map};
 ghost use Rattle.gs_figure_sheets.specs.Between.{lowest_between, span_between};
-ghost use Rattle.gs_figure_sheets.specs.Groups.{dealt_of, group_pages, group_row, group_rows, group_sheet, mesh_values, name_values, pair_values, pairs_between, reach_values, rows_from, score_values, sent_values, spread_values};
+ghost use Rattle.gs_figure_sheets.specs.Groups.{count_by, dealt_of, group_pages, group_row, group_rows, group_sheet, is_nobody, mesh_values, name_values, pair_values, pairs_between, reach_values, rows_from, score_values, sent_values, spread_values};
 
 use crate::between::{lowest_between, over_between, places_between, span_between};
 use crate::columns::group_columns;
 use crate::figures::{lowest_in, moment_of, score_of, score_or_none};
 use crate::party::Party;
-use crate::rows::{count_or_none, push_name, share_of};
+use crate::rows::{count_or_none, push_name, share_of, share_or_none};
 use gs_base::{PeerNo, Seq};
 use gs_counts::{Kind, LinkCounts, Span};
 use gs_opinions::{Lowest, PairOpinion};
@@ -144,7 +144,7 @@ fn push_pairs(row: &mut Row, pairs: &[Pair]) -> Result<(), AllocError>
     row.push(Value::Count(all))?;
     row.push(Value::Count(reached))?;
     row.push(Value::Count(missed(pairs)))?;
-    row.push(Value::Share(share_of(reached, all)))
+    row.push(share_or_none(share_of(reached, all)))
 }
 
 fn push_spread(row: &mut Row, spread: &Spread) -> Result<(), AllocError>
@@ -166,8 +166,28 @@ fn push_sent(
 {
     let rpcs = over_between(&from.told, &to.peers, Kind::RpcsSent, links);
     let bytes = over_between(&from.told, &to.peers, Kind::BytesSent, links);
-    row.push(Value::Count(rpcs))?;
-    row.push(Value::Count(bytes))
+    row.push(count_by(&from.told, rpcs))?;
+    row.push(count_by(&from.told, bytes))
+}
+
+/// What these peers did. Of nobody nothing is known, not even that it is 0.
+fn count_by(by: &Chosen, number: u64) -> Value
+    ensures { result ≡ count_by by.now number }
+{
+    if is_nobody(by) {
+        return Value::Missing;
+    }
+    Value::Count(number)
+}
+
+/// Whether no peer is chosen.
+fn is_nobody(chosen: &Chosen) -> bool
+    ensures { result ≡ is_nobody chosen.now }
+{
+    match chosen {
+        Chosen::Any => false,
+        Chosen::Only(peers) => peers.is_empty(),
+    }
 }
 
 /// Adds how many places the meshes of one group have for another, and in all.
@@ -181,8 +201,8 @@ fn push_meshes(
 {
     let members = places_between(&from.told, &to.peers, peers);
     let places = places_between(&from.told, &Chosen::Any, peers);
-    row.push(Value::Count(members))?;
-    row.push(Value::Count(places))
+    row.push(count_by(&from.told, members))?;
+    row.push(count_by(&from.told, places))
 }
 
 /// Adds the lowest score that one group gives another, at the end and over the run.

@@ -30,7 +30,7 @@ pub use figure::Figure;
 pub use figures::{Label, Line, PeerFigures, RowFigures};
 pub use found::Found;
 pub use known::Known;
-pub use laws::rows_have_a_value_for_each_column;
+pub use laws::{columns_of_a_table_have_headers_of_their_own, rows_have_a_value_for_each_column};
 pub use party::Party;
 pub use reach::reach_sheets;
 pub use section::Section;

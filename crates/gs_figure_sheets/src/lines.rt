@@ -125,11 +125,11 @@ fn push_parties(
 fn peer_line(alloc: Global, plan: &Plan, row: &PeerFigures) -> Result<Line, AllocError>
     ensures { IfOk result (λ line. line ≡ peer_line plan.now row.now) }
 {
-    named_line(alloc, name_of(plan, row.peer).as_bytes(), row.figures)
+    named_line(alloc, name_of(plan, row.peer).as_bytes(), Some(row.figures))
 }
 
 /// A row that is of a name.
-fn named_line(alloc: Global, name: &[u8], figures: RowFigures) -> Result<Line, AllocError>
+fn named_line(alloc: Global, name: &[u8], figures: Option<RowFigures>) -> Result<Line, AllocError>
     ensures { IfOk result (λ line. line ≡ named_line name.now figures) }
 {
     let name = bytes_of(alloc, name)?;
@@ -137,7 +137,7 @@ fn named_line(alloc: Global, name: &[u8], figures: RowFigures) -> Result<Line, A
     Ok(Line::of(alloc, labels, figures))
 }
 
-/// The rows of a group in one.
+/// The rows of a group in one, where it has some.
 fn party_line(alloc: Global, rows: &[PeerFigures], party: &Party) -> Result<Line, AllocError>
     ensures { IfOk result (λ line. line ≡ party_line rows.now party.now) }
 {
@@ -155,7 +155,7 @@ fn bracketed(alloc: Global, name: &[u8]) -> Result<Vec<u8>, AllocError>
     Ok(text)
 }
 
-/// The rows of all in one.
+/// The rows of all in one, where there are some.
 fn all_line(alloc: Global, rows: &[PeerFigures]) -> Result<Line, AllocError>
     ensures { IfOk result (λ line. line ≡ all_line rows.now) }
 {
@@ -199,7 +199,7 @@ fn round_with(alloc: Global, round: &RoundCounts, given: &RoundOpinions) -> Resu
     let groups = scores_in(alloc, given.groups.as_slice())?;
     Ok(Line {
         labels,
-        figures: round_figures(round, &point(&given.lowest)),
+        figures: Some(round_figures(round, &point(&given.lowest))),
         groups,
     })
 }
@@ -208,7 +208,7 @@ fn round_without(alloc: Global, round: &RoundCounts) -> Result<Line, AllocError>
     ensures { IfOk result (λ line. line ≡ round_without round.now) }
 {
     let labels = Seq::only(alloc, Label::Numbered(round.round))?;
-    Ok(Line::of(alloc, labels, round_figures(round, &None)))
+    Ok(Line::of(alloc, labels, Some(round_figures(round, &None))))
 }
 
 fn round_figures(round: &RoundCounts, scores: &Option<Span>) -> RowFigures
@@ -270,7 +270,7 @@ fn topic_line(alloc: Global, topic: &TopicCounts) -> Result<Line, AllocError>
     named_line(
         alloc,
         topic.topic.0.as_slice(),
-        RowFigures::only_counts(topic.counts),
+        Some(RowFigures::only_counts(topic.counts)),
     )
 }
 
@@ -301,7 +301,8 @@ fn link_line(alloc: Global, plan: &Plan, link: &LinkCounts) -> Result<Line, Allo
     let mut labels = Seq::new(alloc);
     push_label(alloc, &mut labels, name_of(plan, link.from).as_bytes())?;
     push_label(alloc, &mut labels, name_of(plan, link.to).as_bytes())?;
-    Ok(Line::of(alloc, labels, RowFigures::only_counts(link.counts)))
+    let figures = RowFigures::only_counts(link.counts);
+    Ok(Line::of(alloc, labels, Some(figures)))
 }
 
 fn push_label(alloc: Global, labels: &mut Seq<Label>, name: &[u8]) -> Result<(), AllocError>

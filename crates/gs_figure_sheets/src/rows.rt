@@ -3,7 +3,7 @@ ghost use Rattle.std.specs.Prelude.{◌≡◌, ◌++◌, ◌∷◌, [], IfOk, On
 ghost use Rattle.gs_reach.specs.Reached.{missed, reached};
 ghost use Rattle.gs_sheets.specs.declared.sheet.Value.{Value as ValueValue};
 ghost use Rattle.gs_sheets.specs.declared.sheet.Value.TheVariants.{Name as NameValue, Payload as PayloadValue};
-ghost use Rattle.gs_figure_sheets.specs.Reach.{count_or_none, limit_rows, message_counts, message_names, message_row, message_rounds, outcome_row, share_of, spread_row, verdict_word, within_row};
+ghost use Rattle.gs_figure_sheets.specs.Reach.{count_or_none, limit_rows, message_counts, message_names, message_row, message_rounds, missed_by, outcome_row, share_of, share_or_none, spread_row, verdict_word, within_row};
 
 use gs_base::{Seq, Verdict};
 use gs_plan::Plan;
@@ -32,15 +32,24 @@ pub(crate) fn count_or_none(number: Option<u64>) -> Value
     }
 }
 
-/// A part of a number in hundredths of a per cent.
-pub(crate) fn share_of(part: u64, all: u64) -> u64
+pub(crate) fn share_or_none(share: Option<u64>) -> Value
+    ensures { result ≡ share_or_none share }
+{
+    match share {
+        None => Value::Missing,
+        Some(share) => Value::Share(share),
+    }
+}
+
+/// A part of a number in hundredths of a per cent. None where there is nothing to share.
+pub(crate) fn share_of(part: u64, all: u64) -> Option<u64>
     ensures { result ≡ share_of part all }
 {
     if all == 0 {
-        return 0;
+        return None;
     }
     let share = u128::from(part) * 10_000 / u128::from(all);
-    share.min(10_000) as u64
+    Some(share.min(10_000) as u64)
 }
 
 /// The row of a message.
@@ -98,7 +107,18 @@ fn push_counts(row: &mut Row, message: &MessageReach) -> Result<(), AllocError>
     row.push(Value::Count(message.publication.at.0))?;
     row.push(Value::Count(pairs.len() as u64))?;
     row.push(Value::Count(reached(pairs)))?;
-    row.push(Value::Count(missed(pairs)))
+    row.push(count_or_none(missed_by(message)))
+}
+
+/// How many subscribers a message missed. None where it should reach nobody, since validation does not accept it.
+fn missed_by(message: &MessageReach) -> Option<u64>
+    ensures { result ≡ missed_by message.now }
+{
+    match message.verdict {
+        Verdict::Accept => Some(missed(message.pairs.as_slice())),
+        Verdict::Reject => None,
+        Verdict::Ignore => None,
+    }
 }
 
 fn push_rounds(row: &mut Row, spread: &Spread) -> Result<(), AllocError>
@@ -165,7 +185,7 @@ fn outcome_row(
     push_name(alloc, &mut row, word.as_bytes())?;
     row.push(limit)?;
     row.push(Value::Count(part))?;
-    row.push(Value::Share(share_of(part, all)))?;
+    row.push(share_or_none(share_of(part, all)))?;
     Ok(row)
 }
 

@@ -1,4 +1,5 @@
 mod names;
+mod nobody;
 mod order;
 mod ran;
 mod runs;

@@ -74,13 +74,13 @@ from=\"left\" to=\"left\" pairs=1 reached=1 share=100.00 median_round=1 round_90
 bytes_sent=58 mesh_members=2 mesh_places=3 lowest_at_ms=1000
 from=\"left\" to=\"right\" pairs=3 reached=3 share=100.00 median_round=3 round_90=4 last_round=4 rpcs_sent=3 \
 bytes_sent=36 mesh_members=1 mesh_places=3 lowest_at_ms=1000
-from=\"right\" to=\"left\" share=0.00 median_round= round_90= last_round= rpcs_sent=2 bytes_sent=22 mesh_members=1 \
+from=\"right\" to=\"left\" share= median_round= round_90= last_round= rpcs_sent=2 bytes_sent=22 mesh_members=1 \
 mesh_places=5 lowest_at_ms=1000
-from=\"right\" to=\"right\" share=0.00 median_round= round_90= last_round= rpcs_sent=10 bytes_sent=116 \
+from=\"right\" to=\"right\" share= median_round= round_90= last_round= rpcs_sent=10 bytes_sent=116 \
 mesh_members=4 mesh_places=5 lowest_at_ms=1000
 ";
 
-/// Only what `p1` saw. Nobody else says what it scores.
+/// Only what `p1` saw. Nobody else says what it scores, and of `right` nothing is known.
 const OF_P1: &str = "\
 topic=\"news\" payload=\"616263\" publisher=\"p0\" verdict=\"accept\" publishers=1 at_ms=1200 subscribers=1 \
 reached=1 first_round=1 median_round=1 round_90=1 last_round=1
@@ -99,7 +99,15 @@ peer=\"(left)\" rpcs_heard=5 bytes_heard=58 new=1 payload_bytes_new=3 subscripti
 rpcs_sent=5 bytes_sent=58 message_bytes_sent=13 control_bytes_sent=20 subscription_bytes_sent=20 \
 subscriptions_sent=2 messages_pushed=1 graft_sent=2 delivered=1 grafted=2 grafted_by_heartbeat=2 smallest_mesh=2 \
 largest_mesh=2 lowest_score= highest_score= lowest_in_run= lowest_at_ms=
-peer=\"(right)\" smallest_mesh= largest_mesh= lowest_score= highest_score= lowest_in_run= lowest_at_ms=
+peer=\"(right)\" rpcs_heard= bytes_heard= raw_bytes_heard= new= duplicates= ignored= rejected= signed= off_topic= \
+payload_bytes_new= payload_bytes_again= subscriptions_heard= ihave_heard= ids_offered= iwant_heard= ids_asked= \
+graft_heard= prune_heard= rpcs_sent= bytes_sent= raw_bytes_sent= message_bytes_sent= control_bytes_sent= \
+subscription_bytes_sent= subscriptions_sent= messages_pushed= messages_answered= ihave_sent= ids_offered_sent= \
+iwant_sent= ids_asked_sent= graft_sent= prune_sent= rpcs_graylisted= rpcs_late= faults= graft_refused_explicit= \
+graft_refused_backoff= graft_refused_score= graft_refused_full= ids_not_sent_score= ids_not_sent_too_often= \
+ids_not_sent_not_kept= promises_broken= refused_lines= delivered= grafted= grafted_by_neighbour= \
+grafted_by_heartbeat= pruned= pruned_by_neighbour= pruned_by_heartbeat= pruned_by_loss= smallest_mesh= largest_mesh= \
+lowest_score= highest_score= lowest_in_run= lowest_at_ms=
 peer=\"(all)\" rpcs_heard=5 bytes_heard=58 new=1 payload_bytes_new=3 subscriptions_heard=2 graft_heard=2 \
 rpcs_sent=5 bytes_sent=58 message_bytes_sent=13 control_bytes_sent=20 subscription_bytes_sent=20 \
 subscriptions_sent=2 messages_pushed=1 graft_sent=2 delivered=1 grafted=2 grafted_by_heartbeat=2 smallest_mesh=2 \
@@ -107,28 +115,46 @@ largest_mesh=2 lowest_score= highest_score= lowest_in_run= lowest_at_ms=
 
 from=\"left\" to=\"left\" pairs=1 reached=1 share=100.00 median_round=1 round_90=1 last_round=1 rpcs_sent=2 \
 bytes_sent=22 mesh_members=1 mesh_places=2 lowest_at_ms=1000
-from=\"left\" to=\"right\" share=0.00 median_round= round_90= last_round= rpcs_sent=3 bytes_sent=36 mesh_members=1 \
+from=\"left\" to=\"right\" share= median_round= round_90= last_round= rpcs_sent=3 bytes_sent=36 mesh_members=1 \
 mesh_places=2 lowest_at_ms=1000
-from=\"right\" to=\"left\" share=0.00 median_round= round_90= last_round= lowest_score= lowest_in_run= lowest_at_ms=
-from=\"right\" to=\"right\" share=0.00 median_round= round_90= last_round= lowest_score= lowest_in_run= \
-lowest_at_ms=
+from=\"right\" to=\"left\" share= median_round= round_90= last_round= rpcs_sent= bytes_sent= mesh_members= \
+mesh_places= lowest_score= lowest_in_run= lowest_at_ms=
+from=\"right\" to=\"right\" share= median_round= round_90= last_round= rpcs_sent= bytes_sent= mesh_members= \
+mesh_places= lowest_score= lowest_in_run= lowest_at_ms=
 ";
 
-/// Nobody counts, and nobody is in the group.
+/// Nobody counts, and nobody is in the group: no count of peers is known, and no share of no pairs.
 const OF_NOBODY: &str = "\
 topic=\"news\" payload=\"616263\" publisher=\"a\" verdict=\"accept\" publishers=1 at_ms=200 first_round= median_round= \
 round_90= last_round=
 
-outcome=\"reached\" within_rounds=1 share=0.00
-outcome=\"missed\" within_rounds= share=0.00
-outcome=\"all\" within_rounds= share=0.00
+outcome=\"reached\" within_rounds=1 share=
+outcome=\"missed\" within_rounds= share=
+outcome=\"all\" within_rounds= share=
 
 pairs=0 first_round= median_round= round_90= round_99= last_round=
 
-peer=\"(none)\" smallest_mesh= largest_mesh= lowest_score= highest_score= lowest_in_run= lowest_at_ms=
-peer=\"(all)\" smallest_mesh= largest_mesh= lowest_score= highest_score= lowest_in_run= lowest_at_ms=
+peer=\"(none)\" rpcs_heard= bytes_heard= raw_bytes_heard= new= duplicates= ignored= rejected= signed= off_topic= \
+payload_bytes_new= payload_bytes_again= subscriptions_heard= ihave_heard= ids_offered= iwant_heard= ids_asked= \
+graft_heard= prune_heard= rpcs_sent= bytes_sent= raw_bytes_sent= message_bytes_sent= control_bytes_sent= \
+subscription_bytes_sent= subscriptions_sent= messages_pushed= messages_answered= ihave_sent= ids_offered_sent= \
+iwant_sent= ids_asked_sent= graft_sent= prune_sent= rpcs_graylisted= rpcs_late= faults= graft_refused_explicit= \
+graft_refused_backoff= graft_refused_score= graft_refused_full= ids_not_sent_score= ids_not_sent_too_often= \
+ids_not_sent_not_kept= promises_broken= refused_lines= delivered= grafted= grafted_by_neighbour= \
+grafted_by_heartbeat= pruned= pruned_by_neighbour= pruned_by_heartbeat= pruned_by_loss= smallest_mesh= largest_mesh= \
+lowest_score= highest_score= lowest_in_run= lowest_at_ms=
+peer=\"(all)\" rpcs_heard= bytes_heard= raw_bytes_heard= new= duplicates= ignored= rejected= signed= off_topic= \
+payload_bytes_new= payload_bytes_again= subscriptions_heard= ihave_heard= ids_offered= iwant_heard= ids_asked= \
+graft_heard= prune_heard= rpcs_sent= bytes_sent= raw_bytes_sent= message_bytes_sent= control_bytes_sent= \
+subscription_bytes_sent= subscriptions_sent= messages_pushed= messages_answered= ihave_sent= ids_offered_sent= \
+iwant_sent= ids_asked_sent= graft_sent= prune_sent= rpcs_graylisted= rpcs_late= faults= graft_refused_explicit= \
+graft_refused_backoff= graft_refused_score= graft_refused_full= ids_not_sent_score= ids_not_sent_too_often= \
+ids_not_sent_not_kept= promises_broken= refused_lines= delivered= grafted= grafted_by_neighbour= \
+grafted_by_heartbeat= pruned= pruned_by_neighbour= pruned_by_heartbeat= pruned_by_loss= smallest_mesh= largest_mesh= \
+lowest_score= highest_score= lowest_in_run= lowest_at_ms=
 
-from=\"none\" to=\"none\" share=0.00 median_round= round_90= last_round= lowest_score= lowest_in_run= lowest_at_ms=
+from=\"none\" to=\"none\" share= median_round= round_90= last_round= rpcs_sent= bytes_sent= mesh_members= mesh_places= \
+lowest_score= lowest_in_run= lowest_at_ms=
 ";
 
 #[test]

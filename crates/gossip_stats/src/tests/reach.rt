@@ -28,6 +28,17 @@ const MISLEADING: &str = "round_ms = 100\nrounds = 6\nworkers = 1\ncapacity = 1\
     [[do]]\nwhat = \"subscribe\"\nat = 5\npeer = \"b\"\ntopic = \"late\"\n\
     [[do]]\nwhat = \"publish\"\nat = 5\npeer = \"a\"\ntopic = \"late\"\nhex = \"dd\"\n";
 
+/// `b` is on `news` and on `open`. `a` publishes a payload that `news` rejects, and `b` publishes the same on `open`, which
+/// accepts it. So it is delivered to `b`. Then `a` publishes a payload that `news` ignores.
+const LEAKED: &str = "round_ms = 100\nrounds = 6\nworkers = 1\ncapacity = 1\nseed = 1\n\
+    [[topic]]\nname = \"news\"\nreject = [\"ff\"]\nignore = [\"ee\"]\n[[topic]]\nname = \"open\"\n\
+    [[peer]]\nname = \"a\"\n[[peer]]\nname = \"b\"\n[[dial]]\nfrom = \"a\"\nto = \"b\"\n\
+    [[do]]\nwhat = \"subscribe\"\nat = 0\npeer = \"b\"\ntopic = \"news\"\n\
+    [[do]]\nwhat = \"subscribe\"\nat = 0\npeer = \"b\"\ntopic = \"open\"\n\
+    [[do]]\nwhat = \"publish\"\nat = 2\npeer = \"a\"\ntopic = \"news\"\nhex = \"ff\"\n\
+    [[do]]\nwhat = \"publish\"\nat = 2\npeer = \"b\"\ntopic = \"open\"\nhex = \"ff\"\n\
+    [[do]]\nwhat = \"publish\"\nat = 3\npeer = \"a\"\ntopic = \"news\"\nhex = \"ee\"\n";
+
 /// How the text of a scenario begins for some options.
 struct Case {
     scenario: &'static str,
@@ -88,26 +99,26 @@ const AMONG_H: &str = "\
 \"peers\":[
 ";
 
-/// Nobody has the name.
+/// Nobody has the name. There are no pairs, so nothing is a share of them.
 const BY_NOBODY: &str = "\
 topic,payload,publisher,verdict,publishers,at_ms,subscribers,reached,missed,first_round,median_round,round_90,last_round
 
 outcome,within_rounds,pairs,share
-\"reached\",1,0,0.00
-\"missed\",,0,0.00
-\"all\",,0,0.00
+\"reached\",1,0,
+\"missed\",,0,
+\"all\",,0,
 
 pairs,first_round,median_round,round_90,round_99,last_round
 0,,,,,
 
 peer,";
 
-/// The rejected payload is in no pair. That of both publishers has no subscriber, as each has it. The last one has none, as
+/// The rejected payload is in no pair, and nobody missed it. That of both publishers has no subscriber, as each has it. The last one has none, as
 /// nobody could know of its subscriber.
 const NOT_MISLED: &str = "\
 topic,payload,publisher,verdict,publishers,at_ms,subscribers,reached,missed,first_round,median_round,round_90,last_round
 \"news\",\"aa\",\"a\",\"accept\",1,200,1,1,0,1,1,1,1
-\"news\",\"ff\",\"a\",\"reject\",1,300,1,0,1,,,,
+\"news\",\"ff\",\"a\",\"reject\",1,300,1,0,,,,,
 \"news\",\"cc\",\"a\",\"accept\",2,400,0,0,0,,,,
 \"late\",\"dd\",\"a\",\"accept\",1,500,0,0,0,,,,
 
@@ -121,7 +132,58 @@ pairs,first_round,median_round,round_90,round_99,last_round
 
 peer,";
 
-static CASES: [Case; 8] = [
+/// What `news` rejects reached `b` in the round of its publication. It and what `news` ignores should reach nobody, so nobody
+/// missed them. The accepted one has no subscriber, as `a` is on no topic: there are no pairs.
+const LEAKED_TABLES: &str = "\
+How far each message came
+topic  payload  from  verdict  publishers  at_ms  subscribers  reached  missed  first  median  90%  last
+news   ff       a     reject            1    200            1        1       -      0       0    0     0
+open   ff       b     accept            1    200            0        0       0      -       -    -     -
+news   ee       a     ignore            1    300            1        0       -      -       -    -     -
+
+Within how many rounds, of all pairs of an accepted message and a subscriber
+outcome  within rounds  pairs  % of pairs
+reached              1      0           -
+missed               -      0           -
+all                  -      0           -
+
+In how many rounds parts of all these pairs were reached
+";
+
+const LEAKED_ROWS: &str = "\
+topic,payload,publisher,verdict,publishers,at_ms,subscribers,reached,missed,first_round,median_round,round_90,last_round
+\"news\",\"ff\",\"a\",\"reject\",1,200,1,1,,0,0,0,0
+\"open\",\"ff\",\"b\",\"accept\",1,200,0,0,0,,,,
+\"news\",\"ee\",\"a\",\"ignore\",1,300,1,0,,,,,
+
+outcome,within_rounds,pairs,share
+\"reached\",1,0,
+\"missed\",,0,
+\"all\",,0,
+
+pairs,";
+
+const LEAKED_JSON: &str = "\
+{
+\"messages\":[
+{\"topic\":\"news\",\"payload\":\"ff\",\"publisher\":\"a\",\"verdict\":\"reject\",\"publishers\":1,\"at_ms\":200,\
+\"subscribers\":1,\"reached\":1,\"missed\":null,\"first_round\":0,\"median_round\":0,\"round_90\":0,\"last_round\":0},
+{\"topic\":\"open\",\"payload\":\"ff\",\"publisher\":\"b\",\"verdict\":\"accept\",\"publishers\":1,\"at_ms\":200,\
+\"subscribers\":0,\"reached\":0,\"missed\":0,\"first_round\":null,\"median_round\":null,\"round_90\":null,\
+\"last_round\":null},
+{\"topic\":\"news\",\"payload\":\"ee\",\"publisher\":\"a\",\"verdict\":\"ignore\",\"publishers\":1,\"at_ms\":300,\
+\"subscribers\":1,\"reached\":0,\"missed\":null,\"first_round\":null,\"median_round\":null,\"round_90\":null,\
+\"last_round\":null}
+],
+\"within\":[
+{\"outcome\":\"reached\",\"within_rounds\":1,\"pairs\":0,\"share\":null},
+{\"outcome\":\"missed\",\"within_rounds\":null,\"pairs\":0,\"share\":null},
+{\"outcome\":\"all\",\"within_rounds\":null,\"pairs\":0,\"share\":null}
+],
+\"parts\":[
+";
+
+static CASES: [Case; 11] = [
     Case {
         scenario: LINE,
         options: &[],
@@ -161,6 +223,21 @@ static CASES: [Case; 8] = [
         scenario: MISLEADING,
         options: &["--csv"],
         front: NOT_MISLED,
+    },
+    Case {
+        scenario: LEAKED,
+        options: &[],
+        front: LEAKED_TABLES,
+    },
+    Case {
+        scenario: LEAKED,
+        options: &["--csv"],
+        front: LEAKED_ROWS,
+    },
+    Case {
+        scenario: LEAKED,
+        options: &["--json"],
+        front: LEAKED_JSON,
     },
 ];
 

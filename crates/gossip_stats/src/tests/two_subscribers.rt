@@ -25,44 +25,44 @@ pairs  first  median  90%  99%  last
     1      1       1    1    1     1
 
 What each peer heard
-peer   RPCs  bytes  raw bytes  new  duplicates  ignored  rejected  signed  off topic  new payload  other payload  \
-subscriptions  IHAVE  ids  IWANT  ids  GRAFT  PRUNE
-a         1     11          0    0           0        0         0       0          0            0              \
-0              1      0    0      0    0      0      0
-b         2     25          0    1           0        0         0       0          0            3              \
-0              1      0    0      0    0      0      0
-(all)     3     36          0    1           0        0         0       0          0            3              \
-0              2      0    0      0    0      0      0
+peer   RPCs  bytes  raw bytes  new  duplicates  ignored  rejected  signed  off topic  new bytes  other bytes  \
+subscriptions  IHAVE  ids offered  IWANT  ids asked  GRAFT  PRUNE
+a         1     11          0    0           0        0         0       0          0          0            \
+0              1      0            0      0          0      0      0
+b         2     25          0    1           0        0         0       0          0          3            \
+0              1      0            0      0          0      0      0
+(all)     3     36          0    1           0        0         0       0          0          3            \
+0              2      0            0      0          0      0      0
 
 What each peer sent
-peer   RPCs  bytes  raw bytes  of messages  of control  of subscriptions  subscriptions  pushed  answered  IHAVE  \
-ids  IWANT  ids  GRAFT  PRUNE
-a         2     25          0           13           0                10              1       1         0      0    \
-0      0    0      0      0
-b         1     11          0            0           0                10              1       0         0      0    \
-0      0    0      0      0
-(all)     3     36          0           13           0                20              2       1         0      0    \
-0      0    0      0      0
+peer   RPCs  bytes  raw bytes  message bytes  control bytes  subscription bytes  subscriptions  pushed  \
+answered  IHAVE  ids offered  IWANT  ids asked  GRAFT  PRUNE
+a         2     25          0             13              0                  10              1       1         \
+0      0            0      0          0      0      0
+b         1     11          0              0              0                  10              1       0         \
+0      0            0      0          0      0      0
+(all)     3     36          0             13              0                  20              2       1         \
+0      0            0      0          0      0      0
 
 What came to nothing, and why
-peer   graylisted  late  faults  GRAFT: explicit  backoff  score  full  ids not sent: score  too often  not kept  \
-broke promises  refused lines
-a               0     0       0                0        0      0     0                    0          0         \
-0               0              0
-b               0     0       0                0        0      0     0                    0          0         \
-0               0              0
-(all)           0     0       0                0        0      0     0                    0          0         \
-0               0              0
+peer   graylisted  late  faults  GRAFT: explicit  GRAFT: backoff  GRAFT: score  GRAFT: full  \
+ids not sent: score  ids not sent: too often  ids not sent: not kept  broke promises  refused lines
+a               0     0       0                0               0             0            0                    \
+0                        0                       0               0              0
+b               0     0       0                0               0             0            0                    \
+0                        0                       0               0              0
+(all)           0     0       0                0               0             0            0                    \
+0                        0                       0               0              0
 
 Deliveries, meshes and scores
-peer   delivered  came into mesh  by its GRAFT  by heartbeat  left mesh  by its PRUNE  by heartbeat  lost  smallest \
-mesh  largest mesh  lowest score  highest score  lowest in run  at_ms
-a              1               0             0             0          0             0             0     \
-0              0             0      0.000000       0.000000       0.000000    300
-b              1               0             0             0          0             0             0     \
-0              0             0      0.000000       0.000000       0.000000    300
-(all)          2               0             0             0          0             0             0     \
-0              0             0      0.000000       0.000000       0.000000    300
+peer   delivered  came into mesh  grafted by its GRAFT  grafted by heartbeat  left mesh  pruned by its PRUNE  \
+pruned by heartbeat  pruned by loss  smallest mesh  largest mesh  lowest score  highest score  lowest in run  lowest at ms
+a              1               0                     0                     0          0                    \
+0                    0               0              0             0      0.000000       0.000000       0.000000           300
+b              1               0                     0                     0          0                    \
+0                    0               0              0             0      0.000000       0.000000       0.000000           300
+(all)          2               0                     0                     0          0                    \
+0                    0               0              0             0      0.000000       0.000000       0.000000           300
 ";
 
 const ROWS: &str = "\

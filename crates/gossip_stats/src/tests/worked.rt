@@ -65,12 +65,12 @@ const REJECTED: Case = Case {
         [[do]]\nat = 0\npeer = \"b\"\nwhat = \"subscribe\"\ntopic = \"news\"\n\
         [[do]]\nat = 12\npeer = \"b\"\nwhat = \"publish\"\ntopic = \"news\"\nhex = \"ff\"\n",
     figures: "\
-topic=\"news\" payload=\"ff\" publisher=\"b\" verdict=\"reject\" publishers=1 at_ms=1200 subscribers=1 missed=1 \
+topic=\"news\" payload=\"ff\" publisher=\"b\" verdict=\"reject\" publishers=1 at_ms=1200 subscribers=1 missed= \
 first_round= median_round= round_90= last_round=
 
-outcome=\"reached\" within_rounds=1 share=0.00
-outcome=\"missed\" within_rounds= share=0.00
-outcome=\"all\" within_rounds= share=0.00
+outcome=\"reached\" within_rounds=1 share=
+outcome=\"missed\" within_rounds= share=
+outcome=\"all\" within_rounds= share=
 
 pairs=0 first_round= median_round= round_90= round_99= last_round=
 
@@ -176,27 +176,30 @@ fn raw_bytes_are_bytes_and_no_rpc_of_the_sender(rt: HostRuntime) -> Result<(), A
 /// Two topics, as tables by topic: a subscription, a message and a GRAFT each way on each.
 const BY_TOPIC: &str = "\
 What was heard on each topic
-topic  new  duplicates  ignored  rejected  signed  off topic  new payload  other payload  subscriptions  IHAVE  \
-ids  GRAFT  PRUNE
-blog     1           0        0         0       0          0            3              0              2      0    \
-0      0      0
-news     1           0        0         0       0          0            3              0              2      0    \
-0      0      0
+topic  new  duplicates  ignored  rejected  signed  off topic  new bytes  other bytes  subscriptions  IHAVE  \
+ids offered  GRAFT  PRUNE
+blog     1           0        0         0       0          0          3            0              2      \
+0            0      0      0
+news     1           0        0         0       0          0          3            0              2      \
+0            0      0      0
 
 What was sent on each topic
-topic  subscriptions  pushed  answered  IHAVE  ids  GRAFT  PRUNE
-blog               2       1         0      0    0      2      0
-news               2       1         0      0    0      2      0
+topic  subscriptions  pushed  answered  IHAVE  ids offered  GRAFT  PRUNE
+blog               2       1         0      0            0      2      0
+news               2       1         0      0            0      2      0
 
 What came to nothing on each topic, and why
-topic  GRAFT: explicit  backoff  score  full
-blog                 0        0      0     0
-news                 0        0      0     0
+topic  GRAFT: explicit  GRAFT: backoff  GRAFT: score  GRAFT: full
+blog                 0               0             0            0
+news                 0               0             0            0
 
 Deliveries and meshes on each topic
-topic  delivered  came into mesh  by its GRAFT  by heartbeat  left mesh  by its PRUNE  by heartbeat  lost
-blog           2               2             0             2          0             0             0     0
-news           2               2             0             2          0             0             0     0
+topic  delivered  came into mesh  grafted by its GRAFT  grafted by heartbeat  left mesh  pruned by its PRUNE  \
+pruned by heartbeat  pruned by loss
+blog           2               2                     0                     2          0                    \
+0                    0               0
+news           2               2                     0                     2          0                    \
+0                    0               0
 ";
 
 #[test]

@@ -74,13 +74,13 @@ b rpcs_heard 2 bytes_heard 23 new 1 payload_bytes_new 1 subscriptions_heard 1 rp
     messages_pushed 1 graft_sent 1 refused_lines 1 delivered 2 grafted 2 grafted_by_neighbour 1 smallest_mesh 1 \
     largest_mesh 1 lowest_score 0 highest_score 1000000 lowest_in_run 0 lowest_at_ms 400 .
 groups
-first first share 0 median_round - round_90 - last_round - mesh_places 1 lowest_score - lowest_in_run - \
+first first share - median_round - round_90 - last_round - mesh_places 1 lowest_score - lowest_in_run - \
     lowest_at_ms - .
 first second pairs 1 reached 1 share 10000 median_round 1 round_90 1 last_round 1 rpcs_sent 2 bytes_sent 23 \
     mesh_members 1 mesh_places 1 lowest_score 0 lowest_in_run 0 lowest_at_ms 400 .
-second first share 0 median_round - round_90 - last_round - rpcs_sent 1 bytes_sent 21 mesh_members 1 mesh_places 1 \
+second first share - median_round - round_90 - last_round - rpcs_sent 1 bytes_sent 21 mesh_members 1 mesh_places 1 \
     lowest_score 1000000 lowest_in_run 1000000 lowest_at_ms 400 .
-second second share 0 median_round - round_90 - last_round - mesh_places 1 lowest_score - lowest_in_run - \
+second second share - median_round - round_90 - last_round - mesh_places 1 lowest_score - lowest_in_run - \
     lowest_at_ms - .
 ",
     },
@@ -95,9 +95,9 @@ second second share 0 median_round - round_90 - last_round - mesh_places 1 lowes
 messages
 news [2] a accept publishers 1 at_ms 300 first_round - median_round - round_90 - last_round - .
 within
-reached within_rounds 1 share 0 .
-missed within_rounds - share 0 .
-all within_rounds - share 0 .
+reached within_rounds 1 share - .
+missed within_rounds - share - .
+all within_rounds - share - .
 parts
 0 first_round - median_round - round_90 - round_99 - last_round - .
 peers
@@ -109,18 +109,29 @@ a rpcs_heard 1 bytes_heard 21 subscriptions_heard 1 graft_heard 1 rpcs_sent 2 by
     message_bytes_sent 11 subscription_bytes_sent 10 subscriptions_sent 1 messages_pushed 1 refused_lines 1 delivered 1 \
     grafted 1 grafted_by_neighbour 1 smallest_mesh 1 largest_mesh 1 lowest_score - highest_score - lowest_in_run - \
     lowest_at_ms - .
-(second) smallest_mesh - largest_mesh - lowest_score - highest_score - lowest_in_run - lowest_at_ms - .
+(second) rpcs_heard - bytes_heard - raw_bytes_heard - new - duplicates - ignored - rejected - signed - off_topic - \
+    payload_bytes_new - payload_bytes_again - subscriptions_heard - ihave_heard - ids_offered - iwant_heard - \
+    ids_asked - graft_heard - prune_heard - rpcs_sent - bytes_sent - raw_bytes_sent - message_bytes_sent - \
+    control_bytes_sent - subscription_bytes_sent - subscriptions_sent - messages_pushed - messages_answered - \
+    ihave_sent - ids_offered_sent - iwant_sent - ids_asked_sent - graft_sent - prune_sent - rpcs_graylisted - \
+    rpcs_late - faults - graft_refused_explicit - graft_refused_backoff - graft_refused_score - graft_refused_full - \
+    ids_not_sent_score - ids_not_sent_too_often - ids_not_sent_not_kept - promises_broken - refused_lines - \
+    delivered - grafted - grafted_by_neighbour - grafted_by_heartbeat - pruned - pruned_by_neighbour - \
+    pruned_by_heartbeat - pruned_by_loss - smallest_mesh - largest_mesh - lowest_score - highest_score - \
+    lowest_in_run - lowest_at_ms - .
 (all) rpcs_heard 1 bytes_heard 21 subscriptions_heard 1 graft_heard 1 rpcs_sent 2 bytes_sent 23 message_bytes_sent \
     11 subscription_bytes_sent 10 subscriptions_sent 1 messages_pushed 1 refused_lines 1 delivered 1 grafted 1 \
     grafted_by_neighbour 1 smallest_mesh 1 largest_mesh 1 lowest_score - highest_score - lowest_in_run - lowest_at_ms - \
     .
 groups
-first first share 0 median_round - round_90 - last_round - mesh_places 1 lowest_score - lowest_in_run - \
+first first share - median_round - round_90 - last_round - mesh_places 1 lowest_score - lowest_in_run - \
     lowest_at_ms - .
-first second share 0 median_round - round_90 - last_round - rpcs_sent 2 bytes_sent 23 mesh_members 1 mesh_places 1 \
+first second share - median_round - round_90 - last_round - rpcs_sent 2 bytes_sent 23 mesh_members 1 mesh_places 1 \
     lowest_score 0 lowest_in_run 0 lowest_at_ms 400 .
-second first share 0 median_round - round_90 - last_round - lowest_score - lowest_in_run - lowest_at_ms - .
-second second share 0 median_round - round_90 - last_round - lowest_score - lowest_in_run - lowest_at_ms - .
+second first share - median_round - round_90 - last_round - rpcs_sent - bytes_sent - mesh_members - mesh_places - \
+    lowest_score - lowest_in_run - lowest_at_ms - .
+second second share - median_round - round_90 - last_round - rpcs_sent - bytes_sent - mesh_members - mesh_places - \
+    lowest_score - lowest_in_run - lowest_at_ms - .
 ",
     },
     Case {
@@ -196,7 +207,7 @@ b a rpcs_heard 1 subscriptions_heard 1 graft_heard 1 .
         subject: Subject::Run,
         text: "\
 messages
-news [255] h2 reject publishers 1 at_ms 200 subscribers 2 missed 2 first_round - median_round - round_90 - \
+news [255] h2 reject publishers 1 at_ms 200 subscribers 2 missed - first_round - median_round - round_90 - \
     last_round - .
 news [11] x accept publishers 1 at_ms 200 subscribers 2 missed 2 first_round - median_round - round_90 - last_round \
     - .
@@ -236,7 +247,7 @@ honest bad pairs 1 missed 1 share 0 median_round - round_90 - last_round - rpcs_
     -100000000 lowest_in_run -100000000 lowest_at_ms 100 .
 bad honest pairs 2 missed 2 share 0 median_round - round_90 - last_round - rpcs_sent 2 bytes_sent 23 lowest_score 0 \
     lowest_in_run 0 lowest_at_ms 100 .
-bad bad share 0 median_round - round_90 - last_round - lowest_score - lowest_in_run - lowest_at_ms - .
+bad bad share - median_round - round_90 - last_round - lowest_score - lowest_in_run - lowest_at_ms - .
 ",
     },
     Case {
