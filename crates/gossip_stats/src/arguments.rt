@@ -77,7 +77,7 @@ fn fits(asked: &Asked<'_>) -> bool
 }
 
 fn is_named(choice: Choice<'_>) -> bool
-    ensures { result ≡ is_some (spelled choice) }
+    ensures { result ≡ is_some (spelled choice.entry) }
 {
     match choice {
         Choice::Any => false,
