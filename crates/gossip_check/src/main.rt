@@ -1,17 +1,11 @@
 //! Checks a scenario: says in words what is wrong with it, or that it is fine and what it plans.
 #![tactic(auto)]
 
-mod answer;
-mod first_line;
-mod program;
-mod reasons;
-mod shown;
-mod summary;
-
+use gs_check::run;
 use std::process::ExitCode;
 
 fn main(rt: HostRuntime) -> ExitCode {
-    let status = program::run(
+    let status = run(
         rt.alloc(),
         &mut rt.stdin(),
         &mut rt.stdout(),
@@ -19,6 +13,3 @@ fn main(rt: HostRuntime) -> ExitCode {
     );
     ExitCode::from(status)
 }
-
-#[cfg(test)]
-mod tests;

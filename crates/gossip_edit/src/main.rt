@@ -2,28 +2,20 @@
 //! prints it.
 #![tactic(auto)]
 
-mod change;
-mod edits;
-mod keys;
-mod laws;
-mod nesting;
-mod places;
-mod program;
-mod reasons;
-
+use gs_edit::{refuse_arguments, run};
 use std::process::ExitCode;
 use std::{env, io};
 
 fn main(rt: HostRuntime) -> ExitCode {
     let status = match arguments_of(&rt) {
-        Ok(arguments) => program::run(
+        Ok(arguments) => run(
             rt.alloc(),
             arguments.as_slice(),
             &mut rt.stdin(),
             &mut rt.stdout(),
             &mut rt.stderr(),
         ),
-        Err(fault) => program::refuse_arguments(fault.kind(), &mut rt.stderr()),
+        Err(fault) => refuse_arguments(fault.kind(), &mut rt.stderr()),
     };
     ExitCode::from(status)
 }
@@ -36,6 +28,3 @@ fn arguments_of(rt: &HostRuntime) -> io::Result<Vec<String>> {
     }
     Ok(arguments)
 }
-
-#[cfg(test)]
-mod tests;

@@ -1,5 +1,0 @@
-use Rattle.gossip_check.proofs.Verdicts.{accepted_or_refused}
-use Rattle.gossip_check.proofs.answer.no_input_is_accepted_and_refused.Goals as goal
-
-pub returns : goal.returns
-returns c = accepted_or_refused

@@ -1,5 +1,0 @@
-use Rattle.gossip_edit.proofs.Holding.{key_there}
-use Rattle.gossip_edit.proofs.laws.a_set_key_holds_its_value.Goals as goal
-
-pub returns : goal.returns
-returns c = key_there

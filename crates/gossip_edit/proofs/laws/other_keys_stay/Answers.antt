@@ -1,5 +1,0 @@
-use Rattle.gossip_edit.proofs.Holding.{other_keys_stay}
-use Rattle.gossip_edit.proofs.laws.other_keys_stay.Goals as goal
-
-pub returns : goal.returns
-returns c = other_keys_stay

@@ -1,0 +1,83 @@
+-- How a run of the program ends, and what it has then written.
+use Rattle.std.specs.Prelude.{◌≡◌, ◌≢◌, ℕ, List, ◌++◌, codes, Option, IfSome}
+use Rattle.std.specs.Io.KnownBytes.{Appends, Keeps}
+use Rattle.gs_plan.specs.declared.plan.Plan.{Plan}
+use Rattle.gs_scenario.specs.declared.fault.ScenarioFault.{ScenarioFault}
+use Rattle.gs_scenario.specs.Refusal.{number_of}
+use Rattle.gs_streams.specs.Inputs.{IsRefusal, IsScenario}
+use Rattle.gs_streams.specs.Streams.{AppendsFront}
+use Rattle.gs_check.specs.declared.answer.Verdict.{Verdict}
+use Rattle.gs_check.specs.declared.answer.Verdict.TheVariants as verdicts
+use Rattle.gs_check.specs.declared.program.ExitStatus.{ExitStatus}
+use Rattle.gs_check.specs.declared.program.ExitStatus.TheVariants as ends
+use Rattle.gs_check.specs.FirstLine.{first_line}
+use Rattle.gs_check.specs.Summary.{summary}
+
+-- ---- answers
+
+-- the refusal's number and place in a line of their own, and then some words
+pub record IsRefusalText (fault : ScenarioFault) (answer : List ℕ) : Type 0 where
+  pub words : List ℕ
+  pub text : answer ≡ (first_line fault ++ codes "\n") ++ words
+
+-- what is said where there is no memory to find out, or to say it
+abbrev pub no_memory_answer : List ℕ
+no_memory_answer =
+    codes "32\nthere is not enough memory to read the scenario, or to say what is wrong with it\n"
+
+-- it says `ok` and how much the plan has of each thing that the whole input describes
+pub record Accepts (input : Option (List ℕ)) (answer : List ℕ) : Type 0 where
+  pub plan : Plan
+  pub scenario : IsScenario input plan
+  pub text : answer ≡ summary plan
+
+-- it says the number and the place of the input's refusal, which is not out of memory
+pub record Refuses (input : Option (List ℕ)) (answer : List ℕ) : Type 0 where
+  pub fault : ScenarioFault
+  pub refused : IfSome input (λ bytes. IsRefusal bytes fault)
+  pub judged : number_of fault ≢ 32
+  pub text : IsRefusalText fault answer
+
+-- what an answer with a verdict says of an input
+abbrev pub Answers : Verdict → Option (List ℕ) → List ℕ → Type 0
+Answers verdicts.Accepted input answer = Accepts input answer
+Answers verdicts.Refused input answer = Refuses input answer
+Answers verdicts.NoMemory input answer = answer ≡ no_memory_answer
+
+-- ---- ends
+
+-- Of each end: what the reader had is `input`, and each writer held the first and then the second.
+
+-- the answer to the input is on the output, and nothing more on errors
+pub record Answered (verdict : Verdict) (input output output' errors errors' : Option (List ℕ)) : Type 0 where
+  pub answer : List ℕ
+  pub answers : Answers verdict input answer
+  pub text : Appends output output' answer
+  pub silent : Keeps errors errors'
+
+-- a read of the input failed, or the reads ran out
+pub record InputFailed (output output' errors errors' : Option (List ℕ)) : Type 0 where
+  pub line : AppendsFront errors errors' (codes "input failed\n")
+  pub silent : Keeps output output'
+
+-- a front of the answer to the input is on the output, which failed then
+pub record OutputFailed (input output output' errors errors' : Option (List ℕ)) : Type 0 where
+  pub verdict : Verdict
+  pub answer : List ℕ
+  pub answers : Answers verdict input answer
+  pub text : AppendsFront output output' answer
+  pub line : AppendsFront errors errors' (codes "output failed\n")
+
+-- what each status says
+abbrev pub EndsAs : ExitStatus → (input output output' errors errors' : Option (List ℕ)) → Type 0
+EndsAs (ends.Answered verdict) input output output' errors errors' = Answered verdict input output output' errors errors'
+EndsAs ends.InputFailed input output output' errors errors' = InputFailed output output' errors errors'
+EndsAs ends.OutputFailed input output output' errors errors' = OutputFailed input output output' errors errors'
+
+-- the status that the process ends with
+abbrev pub status_of : ExitStatus → ℕ
+status_of (ends.Answered verdicts.Accepted) = 0
+status_of (ends.Answered verdicts.Refused) = 1
+status_of (ends.Answered verdicts.NoMemory) = 2
+status_of ends.InputFailed = 3
+status_of ends.OutputFailed = 3

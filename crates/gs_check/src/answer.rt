@@ -1,0 +1,124 @@
+ghost use Rattle.std.specs.Prelude.{◌≡◌, ◌≤◌, Err, IfErr, IfOk, List, Ok, Some, ℕ, length};
+ghost use Rattle.gs_scenario.specs.declared.fault.ScenarioFault.TheVariants.{NoMemory};
+ghost use Rattle.gs_check.specs.Program.{Answers, IsRefusalText, no_memory_answer};
+ghost use Rattle.gs_check.specs.Readings.{AnswersText, AnswersUnread, RefusesAs};
+ghost use Rattle.gs_streams.specs.Streams.{longest_input};
+
+use crate::first_line::first_line;
+use crate::reasons::reason;
+use crate::summary::summary;
+use gs_scenario::ScenarioFault;
+use gs_streams::{ReadFault, input_too_long, plan_from};
+use std::alloc::{AllocError, Global};
+
+/// What an answer says of a scenario.
+#[derive(Clone, Copy, Debug, PartialEq, Eq)]
+pub enum Verdict {
+    /// The input describes a plan.
+    Accepted,
+    /// The input is refused.
+    Refused,
+    /// Nothing: there was no memory to find out, or to say it.
+    NoMemory,
+}
+
+/// What is said of an input.
+#[derive(Debug, Drop)]
+pub struct Answer {
+    pub verdict: Verdict,
+    pub text: Vec<u8>,
+}
+
+/// What is said where there is no memory to say more.
+pub const NO_MEMORY_ANSWER: &str =
+    "32\nthere is not enough memory to read the scenario, or to say what is wrong with it\n";
+
+/// Why there is no answer that was made for the input.
+#[derive(Clone, Copy, Debug, PartialEq, Eq)]
+pub enum NoAnswer {
+    /// A read of the input failed, or the reads ran out.
+    InputFailed,
+    /// There was no memory for the plan or for the answer.
+    NoMemory,
+}
+
+/// The answer to what was read of an input.
+///
+/// # Errors
+/// `InputFailed` where a read failed or the reads ran out, and `NoMemory`.
+pub fn answer_after(alloc: Global, reading: Result<Vec<u8>, ReadFault>) -> Result<Answer, NoAnswer>
+    requires short { IfOk reading (λ bytes. length bytes.items ≤ longest_input) }
+    ensures read { IfOk reading (λ bytes. AnswersText bytes.items result) }
+    ensures unread { IfErr reading (λ fault. AnswersUnread fault result) }
+{
+    match reading {
+        Ok(bytes) => answer_of(alloc, &bytes),
+        Err(fault) => answer_unread(alloc, fault),
+    }
+}
+
+/// The answer to an input that was not read to its end.
+fn answer_unread(alloc: Global, fault: ReadFault) -> Result<Answer, NoAnswer>
+    ensures { AnswersUnread fault result }
+{
+    match fault {
+        ReadFault::Failed => Err(NoAnswer::InputFailed),
+        ReadFault::TooLong => refusal_of(alloc, b"", &input_too_long(alloc)),
+        ReadFault::NoMemory => Err(NoAnswer::NoMemory),
+    }
+}
+
+/// The answer to the bytes of a whole input.
+fn answer_of(alloc: Global, bytes: &[u8]) -> Result<Answer, NoAnswer>
+    requires { length bytes.now ≤ longest_input }
+    ensures { AnswersText bytes.now result }
+{
+    match plan_from(alloc, bytes) {
+        Ok(plan) => answered(Verdict::Accepted, summary(alloc, &plan)),
+        Err(fault) => refusal_of(alloc, bytes, &fault),
+    }
+}
+
+/// The answer to a scenario that is refused. The words are made from the bytes where they are no
+/// TOML.
+fn refusal_of(alloc: Global, bytes: &[u8], fault: &ScenarioFault) -> Result<Answer, NoAnswer>
+    ensures refuses { RefusesAs fault.now result }
+    ensures memory { fault.now ≡ NoMemory → result ≡ Err NoAnswer.NoMemory }
+{
+    if fault.number() == 32 {
+        return Err(NoAnswer::NoMemory);
+    }
+    answered(Verdict::Refused, refusal_text(alloc, bytes, fault))
+}
+
+/// The answer with a verdict and its text, if there was memory for that.
+fn answered(verdict: Verdict, made: Result<Vec<u8>, AllocError>) -> Result<Answer, NoAnswer>
+    ensures text { IfOk made (λ text. result ≡ Ok (record { verdict = verdict; text = text })) }
+    ensures none { IfErr made (λ _. result ≡ Err NoAnswer.NoMemory) }
+{
+    match made {
+        Ok(text) => Ok(Answer { verdict, text }),
+        Err(_) => Err(NoAnswer::NoMemory),
+    }
+}
+
+/// The text of a refusal: its first line, and then its reason in words.
+fn refusal_text(alloc: Global, bytes: &[u8], fault: &ScenarioFault) -> Result<Vec<u8>, AllocError>
+    ensures { IfOk result (λ text. IsRefusalText fault.now text.items) }
+{
+    let mut text = first_line(alloc, fault)?;
+    let words = reason(alloc, bytes, fault)?;
+    text.extend_from_slice(words.as_bytes())?;
+    Ok(text)
+}
+
+/// No input that describes a plan is refused.
+pub fn no_input_is_accepted_and_refused()
+    ensures { (bytes one other : List ℕ)
+        → Answers Verdict.Accepted (Some bytes) one → Answers Verdict.Refused (Some bytes) other → ⊥ }
+{}
+
+/// What is said without memory is what the definitions say.
+pub fn answer_without_memory()
+    ensures { NO_MEMORY_ANSWER.now ≡ no_memory_answer }
+{}

@@ -1,0 +1,112 @@
+//! The program: what it reads, what it writes and how it ends.
+ghost use Rattle.std.specs.Prelude.{◌≡◌, ◌≤◌, ◌↔◌, ◌⊎◌, Err, IfOk, List, Option, ℕ, length};
+ghost use Rattle.std.specs.Process.{exit_status};
+ghost use Rattle.gs_streams.specs.Streams.{longest_input};
+ghost use Rattle.gs_check.specs.Program.{Answers, EndsAs, status_of};
+ghost use Rattle.gs_check.specs.Readings.{EndsFor, IsReading};
+
+use crate::answer::{Answer, NO_MEMORY_ANSWER, NoAnswer, Verdict, answer_after};
+use gs_streams::{ReadFault, read_input, try_to_write, write_text};
+use std::alloc::Global;
+use std::io::{Read, Write};
+use std::process::ExitCode;
+
+/// How a run of the program ends.
+#[derive(Clone, Copy, Debug, PartialEq, Eq)]
+pub enum ExitStatus {
+    /// The answer is on the output.
+    Answered(Verdict),
+    /// A read of the input failed, or it was read `MOST_READS` times and had not ended.
+    InputFailed,
+    /// The answer could not be written.
+    OutputFailed,
+}
+
+impl From<ExitStatus> for ExitCode {
+    ghost from_gives = { λ status code. exit_status code ≡ status_of status };
+
+    fn from(status: ExitStatus) -> ExitCode {
+        ExitCode::from(match status {
+            ExitStatus::Answered(Verdict::Accepted) => 0u8,
+            ExitStatus::Answered(Verdict::Refused) => 1,
+            ExitStatus::Answered(Verdict::NoMemory) => 2,
+            ExitStatus::InputFailed | ExitStatus::OutputFailed => 3,
+        })
+    }
+}
+
+/// Reads a scenario from the input, and writes what is to be said of it to the output. Where the
+/// input or the output fails, that is a line on `errors`; where that can't be written, the status
+/// stays the same.
+pub fn run<R, W, E>(alloc: Global, input: &mut R, output: &mut W, errors: &mut E) -> ExitStatus
+where
+    R: Read,
+    W: Write,
+    E: Write,
+    ensures { EndsAs result (R.remaining input.old)
+        (W.contents output.old) (W.contents output.new) (E.contents errors.old) (E.contents errors.new) }
+{
+    let reading = read_input(alloc, input);
+    finish(alloc, reading, output, errors)
+}
+
+/// Answers what was read, or says why there is no answer.
+fn finish<W, E>(
+    alloc: Global,
+    reading: Result<Vec<u8>, ReadFault>,
+    output: &mut W,
+    errors: &mut E,
+) -> ExitStatus
+where
+    W: Write,
+    E: Write,
+    requires short { IfOk reading (λ bytes. length bytes.items ≤ longest_input) }
+    ensures failed { (result ≡ ExitStatus.InputFailed) ↔ (reading ≡ Err ReadFault.Failed) }
+    ensures no_memory { reading ≡ Err ReadFault.NoMemory
+        → (result ≡ ExitStatus.Answered Verdict.NoMemory) ⊎ (result ≡ ExitStatus.OutputFailed) }
+    ensures ends { (input : Option (List ℕ)) → IsReading input reading → EndsAs result input
+        (W.contents output.old) (W.contents output.new) (E.contents errors.old) (E.contents errors.new) }
+{
+    tell(answer_after(alloc, reading), output, errors)
+}
+
+fn tell<W, E>(made: Result<Answer, NoAnswer>, output: &mut W, errors: &mut E) -> ExitStatus
+where
+    W: Write,
+    E: Write,
+    ensures end { EndsFor made result }
+    ensures ends { (input : Option (List ℕ))
+        → IfOk made (λ answer. Answers answer.verdict input answer.text.items) → EndsAs result input
+        (W.contents output.old) (W.contents output.new) (E.contents errors.old) (E.contents errors.new) }
+{
+    match made {
+        Ok(Answer { verdict, text }) => tell_answer(verdict, &text, output, errors),
+        Err(NoAnswer::NoMemory) => {
+            tell_answer(
+                Verdict::NoMemory,
+                NO_MEMORY_ANSWER.as_bytes(),
+                output,
+                errors,
+            )
+        }
+        Err(NoAnswer::InputFailed) => {
+            try_to_write(errors, "input failed\n");
+            ExitStatus::InputFailed
+        }
+    }
+}
+
+fn tell_answer<W, E>(verdict: Verdict, answer: &[u8], output: &mut W, errors: &mut E) -> ExitStatus
+where
+    W: Write,
+    E: Write,
+    ensures end { (result ≡ ExitStatus.Answered verdict) ⊎ (result ≡ ExitStatus.OutputFailed) }
+    ensures ends { (input : Option (List ℕ)) → Answers verdict input answer.now → EndsAs result input
+        (W.contents output.old) (W.contents output.new) (E.contents errors.old) (E.contents errors.new) }
+{
+    if write_text(output, answer).is_err() {
+        try_to_write(errors, "output failed\n");
+        return ExitStatus::OutputFailed;
+    }
+    ExitStatus::Answered(verdict)
+}

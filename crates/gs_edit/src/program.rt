@@ -1,0 +1,165 @@
+//! The program: what it reads, what it writes and how it ends.
+ghost use Rattle.std.specs.Prelude.{◌≡◌, ◌↔◌, ◌⊎◌, Err, List, Option, map, string_bytes, ℕ};
+ghost use Rattle.std.specs.Process.{exit_status};
+ghost use Rattle.gs_edit.specs.Program.{EndsAs, EndsFor, IsChanged, IsNotChanged, IsReading, RefusesArguments, status_of};
+
+use crate::change::changed;
+use crate::edits::NoChange;
+use crate::keys::are_edits;
+use crate::reasons::refusal_line;
+use gs_streams::{ReadFault, read_input, try_to_write, write_text};
+use std::alloc::Global;
+use std::io::{ErrorKind, Read, Write};
+use std::process::ExitCode;
+
+/// How a run of the program ends.
+#[derive(Clone, Copy, Debug, PartialEq, Eq)]
+pub enum ExitStatus {
+    /// The changed scenario is on the output.
+    Changed,
+    /// The scenario can't be read, or can't be changed so.
+    EditRefused,
+    /// There was no memory for the changed scenario, or for the line of a refusal.
+    NoMemory,
+    /// A read of the input failed, or it was read `MOST_READS` times and had not ended.
+    InputFailed,
+    /// The changed scenario could not be written.
+    OutputFailed,
+    /// There is no argument, or one without an equals sign.
+    WrongArguments,
+}
+
+impl From<ExitStatus> for ExitCode {
+    ghost from_gives = { λ status code. exit_status code ≡ status_of status };
+
+    fn from(status: ExitStatus) -> ExitCode {
+        ExitCode::from(match status {
+            ExitStatus::Changed => 0u8,
+            ExitStatus::EditRefused => 1,
+            ExitStatus::NoMemory => 2,
+            ExitStatus::InputFailed | ExitStatus::OutputFailed => 3,
+            ExitStatus::WrongArguments => 64,
+        })
+    }
+}
+
+/// What is said where the arguments are no edits.
+pub const USAGE: &str = "usage: gossip_edit KEY=VALUE..\n";
+
+/// What is said out of memory.
+pub const NO_MEMORY: &str = "edit refused: no memory\n";
+
+/// Reads a scenario from the input, sets the key of each argument to the argument's value, and writes
+/// the changed scenario to the output. Its comments are gone, and the keys of each table ascend. Where
+/// there is no changed scenario, a line on `errors` says why. Where that line can't be written, the
+/// status stays the same. Where the arguments are no edits, the input is not read.
+pub fn run<R, W, E>(
+    alloc: Global,
+    arguments: &[String],
+    input: &mut R,
+    output: &mut W,
+    errors: &mut E,
+) -> ExitStatus
+where
+    R: Read,
+    W: Write,
+    E: Write,
+    ensures { EndsAs result (map string_bytes arguments.now) (R.remaining input.old)
+        (W.contents output.old) (W.contents output.new) (E.contents errors.old) (E.contents errors.new) }
+{
+    if !are_edits(arguments) {
+        try_to_write(errors, USAGE);
+        return ExitStatus::WrongArguments;
+    }
+    let reading = read_input(alloc, input);
+    finish(alloc, arguments, reading, output, errors)
+}
+
+/// Changes what was read, and writes it or says why there is nothing to write.
+fn finish<W, E>(
+    alloc: Global,
+    arguments: &[String],
+    reading: Result<Vec<u8>, ReadFault>,
+    output: &mut W,
+    errors: &mut E,
+) -> ExitStatus
+where
+    W: Write,
+    E: Write,
+    ensures failed { (result ≡ ExitStatus.InputFailed) ↔ (reading ≡ Err ReadFault.Failed) }
+    ensures too_long { reading ≡ Err ReadFault.TooLong
+        → (result ≡ ExitStatus.EditRefused) ⊎ (result ≡ ExitStatus.NoMemory) }
+    ensures no_memory { reading ≡ Err ReadFault.NoMemory → result ≡ ExitStatus.NoMemory }
+    ensures ends { (input : Option (List ℕ)) → IsReading input reading
+        → EndsAs result (map string_bytes arguments.now) input
+        (W.contents output.old) (W.contents output.new) (E.contents errors.old) (E.contents errors.new) }
+{
+    match changed(alloc, arguments, reading) {
+        Ok(text) => write_changed(text.as_str(), output, errors),
+        Err(cause) => tell_cause(alloc, arguments, cause, errors),
+    }
+}
+
+/// Says why the arguments could not be read: one of them is no text, or there was no memory.
+pub fn refuse_arguments<E: Write>(cause: ErrorKind, errors: &mut E) -> ExitStatus
+    ensures told { RefusesArguments result (E.contents errors.old) (E.contents errors.new) }
+    ensures memory { (result ≡ ExitStatus.NoMemory) ↔ (cause ≡ ErrorKind.OutOfMemory) }
+{
+    if cause == ErrorKind::OutOfMemory {
+        try_to_write(errors, NO_MEMORY);
+        return ExitStatus::NoMemory;
+    }
+    try_to_write(errors, USAGE);
+    ExitStatus::WrongArguments
+}
+
+fn write_changed<W, E>(text: &str, output: &mut W, errors: &mut E) -> ExitStatus
+where
+    W: Write,
+    E: Write,
+    ensures end { (result ≡ ExitStatus.Changed) ⊎ (result ≡ ExitStatus.OutputFailed) }
+    ensures ends { (arguments : List (List ℕ)) → (input : Option (List ℕ))
+        → IsChanged arguments input text.now
+        → EndsAs result arguments input
+        (W.contents output.old) (W.contents output.new) (E.contents errors.old) (E.contents errors.new) }
+{
+    if write_text(output, text.as_bytes()).is_err() {
+        try_to_write(errors, "output failed\n");
+        return ExitStatus::OutputFailed;
+    }
+    ExitStatus::Changed
+}
+
+/// Says why there is no changed scenario.
+fn tell_cause<E: Write>(
+    alloc: Global,
+    arguments: &[String],
+    cause: NoChange,
+    errors: &mut E,
+) -> ExitStatus
+    ensures end { EndsFor cause (map string_bytes arguments.now) result (E.contents errors.old) (E.contents errors.new) }
+    ensures ends { (input : Option (List ℕ)) → (output : Option (List ℕ))
+        → IsNotChanged (map string_bytes arguments.now) input cause
+        → EndsAs result (map string_bytes arguments.now) input output output (E.contents errors.old) (E.contents errors.new) }
+{
+    match cause {
+        NoChange::Refused(refusal) => match refusal_line(alloc, arguments, refusal) {
+            Ok(line) => {
+                try_to_write(errors, line.as_str());
+                ExitStatus::EditRefused
+            }
+            Err(_) => {
+                try_to_write(errors, NO_MEMORY);
+                ExitStatus::NoMemory
+            }
+        },
+        NoChange::InputFailed => {
+            try_to_write(errors, "input failed\n");
+            ExitStatus::InputFailed
+        }
+        NoChange::NoMemory => {
+            try_to_write(errors, NO_MEMORY);
+            ExitStatus::NoMemory
+        }
+    }
+}
