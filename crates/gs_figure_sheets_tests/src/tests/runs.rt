@@ -225,14 +225,14 @@ h1 rpcs_heard 2 bytes_heard 46 rejected 1 payload_bytes_again 1 subscriptions_he
     1 smallest_mesh 0 largest_mesh 0 lowest_score 0 highest_score 0 lowest_in_run 0 lowest_at_ms 100 .
 h2 rpcs_heard 2 bytes_heard 23 new 1 payload_bytes_new 1 subscriptions_heard 1 rpcs_sent 2 bytes_sent 23 \
     message_bytes_sent 11 subscription_bytes_sent 10 subscriptions_sent 1 messages_pushed 1 delivered 2 smallest_mesh 0 \
-    largest_mesh 0 lowest_score -15625 highest_score -15625 lowest_in_run -250000 lowest_at_ms 300 .
+    largest_mesh 0 lowest_score -15625 highest_score -15625 lowest_in_run -1000000 lowest_at_ms 300 .
 x rpcs_heard 1 bytes_heard 11 subscriptions_heard 1 rpcs_sent 2 bytes_sent 23 message_bytes_sent 11 \
     subscription_bytes_sent 10 subscriptions_sent 1 messages_pushed 1 delivered 1 smallest_mesh 0 largest_mesh 0 \
     lowest_score -100000000 highest_score -100000000 lowest_in_run -100000000 lowest_at_ms 100 .
 (honest) rpcs_heard 4 bytes_heard 69 new 1 rejected 1 payload_bytes_new 1 payload_bytes_again 1 subscriptions_heard \
     2 rpcs_sent 5 bytes_sent 57 message_bytes_sent 22 subscription_bytes_sent 30 subscriptions_sent 3 messages_pushed 2 \
     rpcs_graylisted 2 delivered 3 smallest_mesh 0 largest_mesh 0 lowest_score -15625 highest_score 0 lowest_in_run \
-    -250000 lowest_at_ms 300 .
+    -1000000 lowest_at_ms 300 .
 (bad) rpcs_heard 1 bytes_heard 11 subscriptions_heard 1 rpcs_sent 2 bytes_sent 23 message_bytes_sent 11 \
     subscription_bytes_sent 10 subscriptions_sent 1 messages_pushed 1 delivered 1 smallest_mesh 0 largest_mesh 0 \
     lowest_score -100000000 highest_score -100000000 lowest_in_run -100000000 lowest_at_ms 100 .
@@ -242,7 +242,7 @@ x rpcs_heard 1 bytes_heard 11 subscriptions_heard 1 rpcs_sent 2 bytes_sent 23 me
     -100000000 lowest_at_ms 100 .
 groups
 honest honest pairs 1 reached 1 share 10000 median_round 1 round_90 1 last_round 1 rpcs_sent 4 bytes_sent 46 \
-    lowest_score -15625 lowest_in_run -250000 lowest_at_ms 300 .
+    lowest_score -15625 lowest_in_run -1000000 lowest_at_ms 300 .
 honest bad pairs 1 missed 1 share 0 median_round - round_90 - last_round - rpcs_sent 1 bytes_sent 11 lowest_score \
     -100000000 lowest_in_run -100000000 lowest_at_ms 100 .
 bad honest pairs 2 missed 2 share 0 median_round - round_90 - last_round - rpcs_sent 2 bytes_sent 23 lowest_score 0 \
@@ -273,15 +273,15 @@ h1 rpcs_heard 2 bytes_heard 46 rejected 1 payload_bytes_again 1 subscriptions_he
     1 smallest_mesh 0 largest_mesh 0 lowest_score 0 highest_score 0 lowest_in_run 0 lowest_at_ms 100 .
 h2 rpcs_heard 2 bytes_heard 23 new 1 payload_bytes_new 1 subscriptions_heard 1 rpcs_sent 2 bytes_sent 23 \
     message_bytes_sent 11 subscription_bytes_sent 10 subscriptions_sent 1 messages_pushed 1 delivered 2 smallest_mesh 0 \
-    largest_mesh 0 lowest_score -15625 highest_score -15625 lowest_in_run -250000 lowest_at_ms 300 .
+    largest_mesh 0 lowest_score -15625 highest_score -15625 lowest_in_run -1000000 lowest_at_ms 300 .
 (both) rpcs_heard 4 bytes_heard 69 new 1 rejected 1 payload_bytes_new 1 payload_bytes_again 1 subscriptions_heard 2 \
     rpcs_sent 5 bytes_sent 57 message_bytes_sent 22 subscription_bytes_sent 30 subscriptions_sent 3 messages_pushed 2 \
     rpcs_graylisted 2 delivered 3 smallest_mesh 0 largest_mesh 0 lowest_score -15625 highest_score 0 lowest_in_run \
-    -250000 lowest_at_ms 300 .
+    -1000000 lowest_at_ms 300 .
 (all) rpcs_heard 4 bytes_heard 69 new 1 rejected 1 payload_bytes_new 1 payload_bytes_again 1 subscriptions_heard 2 \
     rpcs_sent 5 bytes_sent 57 message_bytes_sent 22 subscription_bytes_sent 30 subscriptions_sent 3 messages_pushed 2 \
     rpcs_graylisted 2 delivered 3 smallest_mesh 0 largest_mesh 0 lowest_score -15625 highest_score 0 lowest_in_run \
-    -250000 lowest_at_ms 300 .
+    -1000000 lowest_at_ms 300 .
 groups
 both both pairs 3 reached 1 missed 2 share 3333 median_round - round_90 - last_round - rpcs_sent 5 bytes_sent 57 \
     lowest_score -100000000 lowest_in_run -100000000 lowest_at_ms 100 .
@@ -303,11 +303,11 @@ rounds
 2 rpcs_sent 2 bytes_sent 24 message_bytes_sent 22 messages_pushed 2 delivered 2 smallest_mesh 0 largest_mesh 0 \
     lowest_score -100000000 lowest_score_honest 0 lowest_score_bad -100000000 .
 3 rpcs_heard 1 rejected 1 payload_bytes_again 1 rpcs_sent 1 bytes_sent 12 message_bytes_sent 11 messages_pushed 1 \
-    rpcs_graylisted 1 delivered 1 smallest_mesh 0 largest_mesh 0 lowest_score -100000000 lowest_score_honest -250000 \
+    rpcs_graylisted 1 delivered 1 smallest_mesh 0 largest_mesh 0 lowest_score -100000000 lowest_score_honest -1000000 \
     lowest_score_bad -100000000 .
 4 rpcs_heard 1 new 1 payload_bytes_new 1 delivered 1 smallest_mesh 0 largest_mesh 0 lowest_score -100000000 \
-    lowest_score_honest -62500 lowest_score_bad -100000000 .
-5 smallest_mesh 0 largest_mesh 0 lowest_score -100000000 lowest_score_honest -15625 lowest_score_bad -100000000 .
+    lowest_score_honest -250000 lowest_score_bad -100000000 .
+5 smallest_mesh 0 largest_mesh 0 lowest_score -100000000 lowest_score_honest -62500 lowest_score_bad -100000000 .
 ",
     },
     Case {

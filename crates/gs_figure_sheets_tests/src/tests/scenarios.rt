@@ -25,7 +25,8 @@ pub(crate) const TWO: &str = "round_ms = 100\nrounds = 4\nworkers = 1\ncapacity 
 
 /// `h1` stands between `h2` and `x`, and its application gives `x` -100. So it handles nothing of `x`, and does not know that `x`
 /// is on the topic. `h2` publishes a payload that `h1` rejects: that counts 1, of which each decay leaves half, and its square
-/// weighs -1. A decay comes in each round but the first, and no heartbeat.
+/// weighs -1. A decay comes in each round but the first, and no heartbeat. So in round 3 the score is -1 before the decay and
+/// -0.25 after it, and a quarter of that in each round after.
 pub(crate) const GRAY: &str = "round_ms = 100\nrounds = 5\nworkers = 1\ncapacity = 1\nseed = 1\n\
     [params]\ndecay_ms = 100\nheartbeat_ms = 60000\n\
     [[topic]]\nname = \"news\"\nreject = [\"ff\"]\nw4 = -1000000\n\
