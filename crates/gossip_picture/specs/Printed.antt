@@ -9,7 +9,8 @@ use Rattle.gs_program.specs.Arguments.{IsMisused}
 use Rattle.gs_program.specs.Program.{EndsWith}
 use Rattle.gossip_picture.specs.Arguments.{Wishes, usage}
 
--- the topic of a name, and the first one where there is no name: the empty one where the script subscribes to none
+-- The topic of a name. Where there is no name, it is the first topic that the script subscribes to, or the empty one where
+-- there is none.
 abbrev pub topic_in : Plan → Option (List ℕ) → Topic
 topic_in plan None = unwrap_or (first_topic plan.script) (record { 0 = [] })
 topic_in plan (Some name) = record { 0 = name }
@@ -18,7 +19,7 @@ topic_in plan (Some name) = record { 0 = name }
 abbrev pub printed : Wishes → Plan → Report → List ℕ
 printed w plan report = picture plan report (topic_in plan w.topic) w.among
 
--- how the program ends by what is asked for
+-- how the program ends, depending on what is asked for
 abbrev pub EndsFor : Option Wishes → (status : ℕ) (input input' output output' errors errors' : Option (List ℕ)) → Type 0
 EndsFor None status input input' output output' errors errors' =
     IsMisused usage status input input' output output' errors errors'

@@ -26,12 +26,12 @@ pub enum Subject<'a> {
 #[derive(Clone, Copy, Debug, Drop)]
 pub struct Asked<'a> {
     pub topic: Subject<'a>,
-    /// Scores that these peers give, and subscribers that are among them.
+    /// The peers that count, both as those that give scores and as subscribers.
     pub among: Choice<'a>,
 }
 
-/// What the arguments ask for: the first topic and all peers where there are none. None where they ask for nothing that there
-/// is.
+/// Returns what the arguments ask for: the first topic and all peers where there are no arguments. Returns None where they
+/// are wrong.
 pub fn asked_of(arguments: &[String]) -> Option<Asked<'_>>
     ensures { option_map wishes_of result ≡ asked_for (map string_bytes arguments.now) }
 {
@@ -47,7 +47,7 @@ pub fn asked_of(arguments: &[String]) -> Option<Asked<'_>>
     }
 }
 
-/// The topic of a name, unless that is the word of an option.
+/// Asks for the topic with this name, unless the name is the word of an option.
 fn named<'a>(topic: &'a str, among: Choice<'a>) -> Option<Asked<'a>>
     ensures { option_map wishes_of result ≡ named topic.now (spelled among.entry) }
 {
@@ -60,7 +60,7 @@ fn named<'a>(topic: &'a str, among: Choice<'a>) -> Option<Asked<'a>>
     })
 }
 
-/// The first topic by these peers, after the word of the option.
+/// Asks for the first topic by these peers, where their names follow the word of the option.
 fn first_of<'a>(option: &str, peers: &'a str) -> Option<Asked<'a>>
     ensures { option_map wishes_of result ≡ asked_for (option.now ∷ peers.now ∷ []) }
 {
@@ -73,7 +73,7 @@ fn first_of<'a>(option: &str, peers: &'a str) -> Option<Asked<'a>>
     None
 }
 
-/// A topic by some peers, with the option before or after it.
+/// Asks for a topic by some peers, with the option before or after the topic.
 fn named_of<'a>(one: &'a str, other: &'a str, last: &'a str) -> Option<Asked<'a>>
     ensures { option_map wishes_of result ≡ asked_for (one.now ∷ other.now ∷ last.now ∷ []) }
 {
@@ -92,7 +92,7 @@ fn is_option(word: &str) -> bool
     word == "--of"
 }
 
-/// Says how the program is called, or a front of that, and gives the status for wrong arguments.
+/// Writes the usage line, or a front of it, to `errors`, and returns the status for wrong arguments.
 #[tactic(auto, unfolding(crate::specs::Arguments::usage))]
 pub fn refuse<E: Write>(errors: &mut E) -> ExitCode
     ensures { IsRefusedSo usage wrong_arguments (exit_status result) (E.contents errors.old) (E.contents errors.new) }

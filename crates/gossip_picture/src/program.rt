@@ -38,7 +38,7 @@ impl<'a> Printer for PictureOf<'a> {
     }
 }
 
-/// The picture of a run for the topic and by the peers that are asked for.
+/// The picture of a run, for the topic and the peers that are asked for.
 fn printed(
     alloc: Global,
     asked: Asked<'_>,
@@ -51,7 +51,7 @@ fn printed(
     picture_svg(alloc, plan, report, &topic, asked.among)
 }
 
-/// The topic that is asked for. Where the script subscribes to none, the first one is the empty one.
+/// The topic that is asked for. Where the script subscribes to no topic, the first topic is the empty one.
 fn topic_in(alloc: Global, plan: &Plan, asked: Subject<'_>) -> Result<Topic, AllocError>
     ensures { IfOk result (λ topic. topic ≡ topic_in plan.now (name_in asked.entry)) }
 {
@@ -64,9 +64,9 @@ fn topic_in(alloc: Global, plan: &Plan, asked: Subject<'_>) -> Result<Topic, All
     }
 }
 
-/// Runs the program with these arguments over these streams, and gives the status that its process ends with. Where the
-/// arguments ask for a picture, its ends are those of `gossip_sim`, and its text is that picture of the run. Else
-/// it reads no input, says on `errors` how it is called, and ends with 64.
+/// Runs the program with these arguments over these streams, and returns the exit status of its process. Where the arguments
+/// ask for a picture, it ends as `gossip_sim` does, and its text is that picture of the run. Otherwise it reads no input,
+/// writes the usage line or a front of it to `errors`, and ends with 64.
 pub fn run<R, W, E>(
     alloc: Global,
     arguments: &[String],
@@ -88,7 +88,7 @@ where
     }
 }
 
-/// Runs the program for the picture that is asked for.
+/// Runs the program for the picture that is asked for, and returns the exit status of its process.
 pub fn run_to_exit<R, W, E>(
     alloc: Global,
     asked: Asked<'_>,

@@ -90,7 +90,7 @@ const CHART_HEAD: &str = "\
 <text class=\"head\" x=\"60\" y=\"700\">Share of the subscribers that each message reached</text>
 ";
 
-/// What stands above each chart and beside its axes.
+/// What stands above each chart and at its axes.
 const CHART_WORDS: &str = "\
 <path class=\"course few\" d=\"M60 718H84\"/><text x=\"90\" y=\"722\">thin: one message</text>
 <path class=\"course all\" d=\"M222 718H246\"/><text x=\"252\" y=\"722\">thick: all messages together</text>

@@ -8,7 +8,7 @@ use Rattle.gs_snapshots.specs.declared.wanted.Form.TheVariants as form
 use Rattle.gs_snapshots.specs.Wishes.{Wishes, no_wish, wishes_of}
 use Rattle.gossip_scores.specs.declared.arguments.Asked.{Asked as StoredAsked}
 
--- one wish more, where there was none of its kind
+-- with one more option, if none of its kind came before
 abbrev pub once : {A B : Type 0} → Option A → Option B → Option B
 once None wishes = wishes
 once (Some before) wishes = None
@@ -21,7 +21,7 @@ abbrev pub with_neighbour : Wishes → List ℕ → Option Wishes
 with_neighbour w name =
     once w.neighbour (Some (record { peer = w.peer; neighbour = Some name; rounds = w.rounds; form = w.form }))
 
--- rounds that were spelled as `A..B`
+-- rounds that were spelled in the form `A..B`
 abbrev pub with_these : Wishes → Option RoundSpan → Option Wishes
 with_these w None = None
 with_these w (Some rounds) =
@@ -30,14 +30,14 @@ with_these w (Some rounds) =
 abbrev pub with_rounds : Wishes → Option RoundSpan → Option Wishes
 with_rounds w rounds = once w.rounds (with_these w rounds)
 
--- the form of a word
+-- the form that a word names
 abbrev pub form_in : List ℕ → Option Form
 form_in word =
     if same_bytes word (codes "json") then Some form.Json
     else if same_bytes word (codes "csv") then Some form.Csv
     else None
 
--- a form that has a word
+-- a form that was named by a word
 abbrev pub with_this : Wishes → Option Form → Option Wishes
 with_this w None = None
 with_this w (Some f) =
@@ -46,7 +46,8 @@ with_this w (Some f) =
 abbrev pub with_form : Wishes → Option Form → Option Wishes
 with_form w f = once w.form (with_this w f)
 
--- what an option with a value asks for beside other wishes: none where there is no such option, or it came before
+-- which scores are asked for with one more option and its value: None where there is no such option, where it came before,
+-- or where its value is wrong
 abbrev pub with_wish : Wishes → List ℕ → List ℕ → Option Wishes
 with_wish w name value =
     if same_bytes name (codes "--peer") then with_peer w value
@@ -62,14 +63,14 @@ pub record Asked : Type 0 where
   pub wishes : Wishes
   pub is_summary : Bool
 
--- as it is in memory
+-- what the value in memory asks for
 abbrev pub asked_of : StoredAsked → Asked
 asked_of x = record { wishes = wishes_of x.wanted; is_summary = x.is_summary }
 
 abbrev pub summed_up : Wishes → Asked
 summed_up w = record { wishes = w; is_summary = true }
 
--- a summary of them, where neither that nor a form was asked for
+-- a summary of them, where neither a summary nor a form was asked for before
 abbrev pub with_summary : Asked → Option Asked
 with_summary a = if a.is_summary then None else once a.wishes.form (Some (summed_up a.wishes))
 
@@ -88,7 +89,7 @@ abbrev pub with_option : Asked → List ℕ → List ℕ → Option Asked
 with_option a name value =
     if a.is_summary && same_bytes name (codes "--format") then None else with_wishes a (with_wish a.wishes name value)
 
--- what options ask for beside others
+-- what is asked for with these further options
 abbrev pub asked_from : Option Asked → List (List ℕ) → Option Asked
 asked_from None arguments = None
 asked_from (Some a) [] = Some a
@@ -96,11 +97,11 @@ asked_from (Some a) (name ∷ []) = with_word a name
 asked_from (Some a) (name ∷ value ∷ more) =
     if is_word name then asked_from (with_word a name) (value ∷ more) else asked_from (with_option a name value) more
 
--- what the arguments ask for: all scores where there are none
+-- what the arguments ask for: all scores where there are no arguments
 abbrev pub asked_for : List (List ℕ) → Option Asked
 asked_for arguments = asked_from (Some (record { wishes = no_wish; is_summary = false })) arguments
 
--- what is said where they ask for nothing that there is
+-- the line that is written for wrong arguments
 unfoldable pub usage : List ℕ
 usage = codes
     "usage: gossip_scores [--peer NAME] [--neighbour NAME] [--rounds A..B] [--format json|csv | --summary]\n"

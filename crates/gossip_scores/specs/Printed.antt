@@ -12,7 +12,7 @@ use Rattle.gs_snapshots.specs.Scores.{scores_text}
 use Rattle.gs_snapshots.specs.SummaryText.{summary_text}
 use Rattle.gossip_scores.specs.Arguments.{Asked, usage}
 
--- what a fault of scores is to a printer
+-- what a fault of writing scores means to a printer
 abbrev pub as_printed : TraceFault → PrintFault
 as_printed faults.NoMemory = prints.CutOff
 as_printed faults.WriteFailed = prints.WriteFailed

@@ -24,7 +24,7 @@ pub struct Asked<'a> {
     pub is_summary: bool,
 }
 
-/// What the arguments ask for: all scores where there are none. None where they ask for nothing that there is.
+/// Returns what the arguments ask for: all scores where there are no arguments. Returns None where they are wrong.
 pub fn asked_by(arguments: &[String]) -> Option<Asked<'_>>
     ensures { option_map asked_of result ≡ asked_for (map string_bytes arguments.now) }
 {
@@ -35,8 +35,8 @@ pub fn asked_by(arguments: &[String]) -> Option<Asked<'_>>
     asked_from(asked, arguments)
 }
 
-/// What options ask for beside others. Each but `--summary` has a value. An option comes once at most, so this calls
-/// itself five times at most.
+/// What is asked for with these further options. Each except `--summary` has a value. An option may come at most once, and
+/// `--format` and `--summary` exclude each other, so this calls itself at most four times.
 fn asked_from<'a>(asked: Asked<'a>, arguments: &'a [String]) -> Option<Asked<'a>>
     ensures { option_map asked_of result ≡ asked_from (Some (asked_of asked.entry)) (map string_bytes arguments.now) }
 {
@@ -58,15 +58,15 @@ fn asked_from<'a>(asked: Asked<'a>, arguments: &'a [String]) -> Option<Asked<'a>
     }
 }
 
-/// Whether it is an option without a value.
+/// Whether this names an option without a value.
 fn is_word(name: &str) -> bool
     ensures { result ≡ is_word name.now }
 {
     name == "--summary"
 }
 
-/// What an option without a value asks for beside others. None where there is no such option, it came before, or a form is
-/// asked for.
+/// What is asked for with one more option that has no value. None where there is no such option, where it came before, or
+/// where a form was asked for.
 fn with_word<'a>(asked: Asked<'a>, name: &str) -> Option<Asked<'a>>
     ensures { option_map asked_of result ≡ with_word (asked_of asked.entry) name.now }
 {
@@ -85,8 +85,8 @@ fn with_word<'a>(asked: Asked<'a>, name: &str) -> Option<Asked<'a>>
     }
 }
 
-/// What an option asks for beside others. None where there is no such option, it came before, or it asks for a form of
-/// what is summed up.
+/// What is asked for with one more option and its value. None where there is no such option, where it came before, where its
+/// value is wrong, or where it asks for a form of a summary.
 fn with_option<'a>(asked: Asked<'a>, name: &str, value: &'a str) -> Option<Asked<'a>>
     ensures { option_map asked_of result ≡ with_option (asked_of asked.entry) name.now value.now }
 {
@@ -99,7 +99,8 @@ fn with_option<'a>(asked: Asked<'a>, name: &str, value: &'a str) -> Option<Asked
     }
 }
 
-/// What an option asks for beside other wishes. None where there is no such option, or it came before.
+/// Which scores are asked for with one more option and its value. None where there is no such option, where it came before,
+/// or where its value is wrong.
 fn with_wish<'a>(wanted: Wanted<'a>, name: &str, value: &'a str) -> Option<Wanted<'a>>
     ensures { option_map wishes_of result ≡ with_wish (wishes_of wanted.entry) name.now value.now }
 {
@@ -172,7 +173,7 @@ fn with_form<'a>(wanted: Wanted<'a>, form: Option<Form>) -> Option<Wanted<'a>>
     }
 }
 
-/// The form of a word, if there is one.
+/// The form that a word names, if there is one.
 fn form_in(word: &str) -> Option<Form>
     ensures { result ≡ form_in word.now }
 {
@@ -185,7 +186,7 @@ fn form_in(word: &str) -> Option<Form>
     None
 }
 
-/// Says how the program is called, or a front of that, and gives the status for wrong arguments.
+/// Writes the usage line, or a front of it, to `errors`, and returns the status for wrong arguments.
 #[tactic(auto, unfolding(crate::specs::Arguments::usage))]
 pub fn refuse<E: Write>(errors: &mut E) -> ExitCode
     ensures { IsRefusedSo usage wrong_arguments (exit_status result) (E.contents errors.old) (E.contents errors.new) }

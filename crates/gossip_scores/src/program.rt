@@ -65,7 +65,7 @@ fn write_asked<W: Write>(
     write_scores(alloc, plan, report, &asked.wanted, output)
 }
 
-/// What a fault of scores is to a printer. Where there was no memory, a front of the text may have been written.
+/// What a fault of writing scores means to a printer. A front of the text may have been written before memory ran out.
 fn as_printed(fault: TraceFault) -> PrintFault
     ensures { result ≡ as_printed fault }
 {
@@ -75,9 +75,9 @@ fn as_printed(fault: TraceFault) -> PrintFault
     }
 }
 
-/// Runs the program with these arguments over these streams, and gives the status that its process ends with. Where the
-/// arguments ask for something, its ends are those of `gossip_sim`, and its text has the scores that they ask for. Else it
-/// reads no input, says on `errors` how it is called, and ends with 64.
+/// Runs the program with these arguments over these streams, and returns the exit status of its process. Where the arguments
+/// ask for something, it ends as `gossip_sim` does, and its text has the scores that they ask for. Otherwise it reads no
+/// input, writes the usage line or a front of it to `errors`, and ends with 64.
 pub fn run<R, W, E>(
     alloc: Global,
     arguments: &[String],

@@ -7,7 +7,7 @@ use Rattle.gs_program.specs.Program.{EndsWith}
 use Rattle.gossip_sim.specs.declared.arguments.Way.{Way}
 use Rattle.gossip_sim.specs.declared.arguments.Way.TheVariants.{OverLinks, WithoutLinks}
 
--- how peers are run: over links where nothing is asked for
+-- how peers are run: over links where there are no arguments
 abbrev pub asked_for : List (List ℕ) → Option Way
 asked_for [] = Some OverLinks
 asked_for (name ∷ []) = if same_bytes name (codes "--direct") then Some WithoutLinks else None
@@ -18,11 +18,11 @@ abbrev pub needs_threads : Way → Bool
 needs_threads OverLinks = true
 needs_threads WithoutLinks = false
 
--- what is said where they ask for nothing that there is
+-- the line that is written for wrong arguments
 abbrev pub usage : List ℕ
 usage = codes "usage: gossip_sim [--direct]\n"
 
--- how the program ends by what is asked for
+-- how the program ends, depending on what is asked for
 abbrev pub EndsFor : Option Way → (status : ℕ) (input input' output output' errors errors' : Option (List ℕ)) → Type 0
 EndsFor None status input input' output output' errors errors' =
     IsMisused usage status input input' output output' errors errors'

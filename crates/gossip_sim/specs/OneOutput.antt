@@ -7,13 +7,13 @@ use Rattle.gs_laws.specs.Scenarios.{DifferInRunning}
 use Rattle.gs_program.specs.declared.program.ExitStatus.TheVariants as ends
 use Rattle.gs_program.specs.Program.{EndsAs, Reported}
 
--- Two runs add the same bytes to their outputs. Of an output whose bytes are not known, as of a process's own, this says
--- nothing.
+-- Two runs add the same bytes to their outputs. This says nothing about an output with unknown bytes, such as the standard
+-- output of a process.
 abbrev pub AddTheSame : (output output' other other' : Option (List ℕ)) → Type 0
 AddTheSame output output' other other' = (text : List ℕ) × Appends output output' text × Appends other other' text
 
--- Two runs both report, and their plans differ at most in `workers` and `capacity`. Then the texts of their reports are one,
--- and they add the same bytes.
+-- Two runs both report, and their plans differ at most in `workers` and `capacity`. Then the texts of their reports are the
+-- same, and both runs add the same bytes.
 abbrev pub AlikePlansWriteTheSame : Type 0
 AlikePlansWriteTheSame =
     (input input' output output' errors errors' : Option (List ℕ))
@@ -24,8 +24,8 @@ AlikePlansWriteTheSame =
     → (report_text mine.plan mine.report ≡ report_text theirs.plan theirs.report)
     × AddTheSame output output' other other'
 
--- Two runs both end with the status of a report, each over links or without, and the scenarios that they read differ at most
--- in these keys. Then the texts of their reports are one, and they add the same bytes.
+-- Two runs, each over links or without, both end with the status of a report. Their scenarios differ at most in `workers`
+-- and `capacity`. Then the texts of their reports are the same, and both runs add the same bytes.
 abbrev pub AlikeScenariosWriteTheSame : Type 0
 AlikeScenariosWriteTheSame =
     (input input' output output' errors errors' : Option (List ℕ))

@@ -11,7 +11,7 @@ use std::process::ExitCode;
 /// How the program is called.
 pub const USAGE: &str = "usage: gossip_sim [--direct]\n";
 
-/// How the peers of a scenario are run. The report is the same.
+/// How the peers of a scenario are run. Both ways give the same report.
 #[derive(Clone, Copy, Debug, PartialEq, Eq)]
 pub enum Way {
     /// On worker threads, over links.
@@ -20,7 +20,7 @@ pub enum Way {
     WithoutLinks,
 }
 
-/// How the arguments ask for peers to be run. None where they ask for nothing that there is.
+/// Returns how the arguments ask for peers to be run. Returns None where the arguments are wrong.
 pub fn asked_by(arguments: &[String]) -> Option<Way>
     ensures { result ≡ asked_for (map string_bytes arguments.now) }
 {
@@ -40,7 +40,7 @@ fn way_named(name: &str) -> Option<Way>
     None
 }
 
-/// Says how the program is called, or a front of that, and gives the status for wrong arguments.
+/// Writes the usage line, or a front of it, to `errors`, and returns the status for wrong arguments.
 pub fn refuse<E: Write>(errors: &mut E) -> ExitCode
     ensures { IsRefusedSo usage wrong_arguments (exit_status result) (E.contents errors.old) (E.contents errors.new) }
 {

@@ -38,9 +38,9 @@ impl Printer for Lines {
     }
 }
 
-/// Runs the program with these arguments over these streams, and gives the status that its process ends with. Peers are run
-/// over links, and with `--direct` without. Other arguments are refused: then it reads no input, puts the usage or a front of
-/// it on `errors`, and ends with 64.
+/// Runs the program with these arguments over these streams, and returns the exit status of its process. It runs peers over
+/// links, or with `--direct` without links. It refuses other arguments: then it reads no input, writes the usage line or a
+/// front of it to `errors`, and ends with 64.
 pub fn run_for<T, R, W, E>(
     rt: &T,
     arguments: &[String],
@@ -63,7 +63,7 @@ where
     }
 }
 
-/// Runs the program over these streams, peers in this way, and gives the status that its process ends with.
+/// Runs the program over these streams with peers run in this way, and returns the exit status of its process.
 pub fn run_to_exit<T, R, W, E>(
     rt: &T,
     way: Way,
@@ -86,9 +86,9 @@ where
     }
 }
 
-/// Reads a scenario from the input, runs it over links, and writes its report to the output after the run. Why there is no
-/// report is a line on `errors`, or a front of it. The gate hears of each round that a peer begins. No clause speaks of the
-/// gate or of links, or says why a status comes.
+/// Reads a scenario from the input, runs it over links, and writes its report to the output after the run. Where there is no
+/// report, it writes a line with the reason, or a front of that line, to `errors`. The gate is called for each round that a
+/// peer begins. No clause is about the gate or about links, or states the reason for a status.
 pub fn run<T, G, R, W, E>(
     rt: &T,
     gate: &G,
@@ -118,8 +118,8 @@ where
     }
 }
 
-/// Reads a scenario from the input, runs it without links, and writes its report to the output after the run. Why there is no
-/// report is a line on `errors`, or a front of it.
+/// Reads a scenario from the input, runs it without links, and writes its report to the output after the run. Where there is
+/// no report, it writes a line with the reason, or a front of that line, to `errors`.
 pub fn run_direct<R, W, E>(
     alloc: Global,
     input: &mut R,

@@ -12,7 +12,7 @@ use Rattle.gossip_stats.specs.declared.arguments.Form.{Form}
 use Rattle.gossip_stats.specs.declared.arguments.Form.TheVariants as form
 use Rattle.gossip_stats.specs.declared.arguments.Named.{Named}
 
--- What is wished for. Where a part is None, there is no such wish.
+-- What is asked for. A part that is None was not asked for.
 pub record Wishes : Type 0 where
   -- messages that the peers of these names published first
   pub by : Option (List ℕ)
@@ -38,7 +38,7 @@ wishes_of a = record {
 abbrev pub no_wish : Wishes
 no_wish = record { by = None; among = None; groups = []; subject = None; form = None }
 
--- one wish more, where there was none of its kind
+-- with one more option, if none of its kind came before
 abbrev pub once : {A : Type 0} → Option A → Wishes → Option Wishes
 once None wishes = Some wishes
 once (Some before) wishes = None
@@ -60,7 +60,7 @@ is_name_byte byte = (is_ascii_alphanumeric byte || byte == 95) || byte == 45
 abbrev pub are_name_bytes : List ℕ → Bool
 are_name_bytes name = list_all is_name_byte name
 
--- a name has 1 to 32 of them, and the row of all peers has the name `all`
+-- a name has 1 to 32 of those bytes, and is not `all`, the name of the row of all peers
 abbrev pub is_group_name : List ℕ → Bool
 is_group_name name =
     ((not (length name == 0) && nat_le (length name) 32) && are_name_bytes name) && not (same_bytes name (codes "all"))
@@ -69,7 +69,7 @@ is_group_name name =
 abbrev pub is_equals_sign : ℕ → Bool
 is_equals_sign byte = byte == 61
 
--- the group that `NAME=PEERS` names: none without an equals sign, or with another name
+-- the group that `NAME=PEERS` names: None where there is no equals sign, or where a group can't have this name
 abbrev pub group_in : List ℕ → Option GroupWish
 group_in text =
     if nat_lt (position_or_len is_equals_sign text) (length text) && is_group_name (before_first is_equals_sign text)
@@ -79,7 +79,7 @@ group_in text =
 abbrev pub is_taken : List GroupWish → List ℕ → Bool
 is_taken groups name = list_any (λ g. same_bytes g.name name) groups
 
--- a group more, where fewer than 16 stand there, and none has its name
+-- with one more group, if there are not yet 16 and none of them has its name
 abbrev pub adding : Wishes → GroupWish → Option Wishes
 adding w g =
     if length w.groups == 16 || is_taken w.groups g.name then None
@@ -95,7 +95,8 @@ abbrev pub with_group : Wishes → Option GroupWish → Option Wishes
 with_group w None = None
 with_group w (Some g) = adding w g
 
--- what an option with a value asks for beside others: none where there is no such option, or it can't come after them
+-- what is asked for with one more option and its value: None where there is no such option, or where it can't follow those
+-- before it
 abbrev pub with_option : Wishes → List ℕ → List ℕ → Option Wishes
 with_option w name value =
     if same_bytes name (codes "--by") then with_by w value
@@ -105,14 +106,14 @@ with_option w name value =
 
 -- ---- options without a value
 
--- the form of a word
+-- the form that a word names
 abbrev pub form_in : List ℕ → Option Form
 form_in word =
     if same_bytes word (codes "--csv") then Some form.Csv
     else if same_bytes word (codes "--json") then Some form.Json
     else None
 
--- the subject of a word
+-- the subject that a word names
 abbrev pub subject_in : List ℕ → Option Subject
 subject_in word =
     if same_bytes word (codes "--rounds") then Some subject.Rounds
@@ -131,7 +132,7 @@ abbrev pub with_subject : Wishes → Subject → Option Wishes
 with_subject w s =
     once w.subject (record { by = w.by; among = w.among; groups = w.groups; subject = Some s; form = w.form })
 
--- a form or a subject, where there was none of its kind
+-- with a form or a subject, if none of its kind came before
 abbrev pub beside : Wishes → Option Form → Option Subject → Option Wishes
 beside w (Some f) s = with_form w f
 beside w None (Some s) = with_subject w s
@@ -142,7 +143,7 @@ with_word w name = beside w (form_in name) (subject_in name)
 
 -- ---- all of them
 
--- what options ask for beside others
+-- what is asked for with these further options
 abbrev pub asked_from : Option Wishes → List (List ℕ) → Option Wishes
 asked_from None arguments = None
 asked_from (Some w) [] = Some w
@@ -170,7 +171,7 @@ abbrev pub is_without : {A : Type 0} → List A → Bool
 is_without [] = true
 is_without (x ∷ xs) = false
 
--- each of the wishes changes the sheets
+-- each option that was given changes the sheets
 abbrev pub fits : Wishes → Bool
 fits w = (has_messages w.subject || not (is_some w.by)) && (has_groups w.subject || is_without w.groups)
 
@@ -178,8 +179,8 @@ abbrev pub if_fitting : Option Wishes → Option Wishes
 if_fitting None = None
 if_fitting (Some w) = if fits w then Some w else None
 
--- What the arguments ask for: all of a run, as tables, where there are none. Arguments of which one would change nothing ask
--- for nothing that there is.
+-- What the arguments ask for: all of a run, as tables, where there are no arguments. Arguments are also wrong where one of
+-- them would change nothing.
 abbrev pub asked_for : List (List ℕ) → Option Wishes
 asked_for arguments = if_fitting (asked_from (Some no_wish) arguments)
 
@@ -192,7 +193,7 @@ option_words name value = if is_word name then name ∷ [] else name ∷ value �
 abbrev pub is_group_option : List ℕ → Bool
 is_group_option name = same_bytes name (codes "--group")
 
--- what is said where they ask for nothing that there is
+-- the line that is written for wrong arguments
 unfoldable pub usage : List ℕ
 usage = codes
     "usage: gossip_stats [--by PEERS | --rounds | --topics | --links] [--of PEERS] [--group NAME=PEERS].. [--csv | --json]\n"

@@ -16,7 +16,7 @@ use Rattle.gossip_stats.specs.declared.arguments.Form.{Form}
 use Rattle.gossip_stats.specs.declared.arguments.Form.TheVariants as form
 use Rattle.gossip_stats.specs.Arguments.{Wishes, usage}
 
--- the run as a whole where no other subject is wished for
+-- the run as a whole where no other subject is asked for
 abbrev pub subject_or_run : Option Subject → Subject
 subject_or_run None = subject.Run
 subject_or_run (Some s) = s
@@ -26,7 +26,7 @@ abbrev pub layout_for : Option Form → Layout
 layout_for None = layout.Person
 layout_for (Some f) = layout.Data
 
--- which sheets are wished for
+-- which sheets are asked for
 abbrev pub sheets_wished : Wishes → SheetWishes
 sheets_wished w = record {
   by = w.by;
@@ -36,13 +36,13 @@ sheets_wished w = record {
   layout = layout_for w.form;
 }
 
--- sheets in a form: tables where none is wished for
+-- sheets in a form: tables where no form is asked for
 abbrev pub written : Option Form → List Sheet → List ℕ
 written None sheets = sheets_table sheets
 written (Some form.Csv) sheets = sheets_csv sheets
 written (Some form.Json) sheets = sheets_json sheets
 
--- what is printed of a run, as it is wished for
+-- what is printed of a run for what is asked for
 abbrev pub printed : Wishes → Plan → Report → List ℕ
 printed w plan report = written w.form (figure_sheets plan report (sheets_wished w))
 

@@ -18,7 +18,7 @@ pub const USAGE: &str =
 /// How many groups there may be.
 pub const MOST_GROUPS: usize = 16;
 
-/// How figures are written, where they are no tables for a person.
+/// How figures are written, if not as tables for a person.
 #[derive(Clone, Copy, Debug, PartialEq, Eq)]
 pub enum Form {
     Csv,
@@ -36,20 +36,20 @@ pub struct Named<'a> {
 /// What is asked for of a run.
 #[derive(Drop)]
 pub struct Asked<'a> {
-    /// Messages that these peers published first.
+    /// Which messages count: those that these peers published first.
     pub by: Choice<'a>,
-    /// What the traces of these peers say.
+    /// Which traces count: those of these peers.
     pub among: Choice<'a>,
     /// Groups of peers, in the order in which they were given.
     pub groups: ArrayVec<Named<'a>, MOST_GROUPS>,
-    /// The run as a whole where nothing is said.
+    /// What the figures are about. None means the run as a whole.
     pub subject: Option<Subject>,
-    /// Tables for a person where nothing is said.
+    /// How the figures are written. None means tables for a person.
     pub form: Option<Form>,
 }
 
-/// What the arguments ask for: all of a run, as tables, where there are none. None where they ask for nothing that there is,
-/// or one of them would change nothing.
+/// Returns what the arguments ask for: all of a run, as tables, where there are no arguments. Returns None where they are
+/// wrong, or where one of them would change nothing.
 pub fn asked_by(arguments: &[String]) -> Option<Asked<'_>>
     ensures { option_map wishes_of result ≡ asked_for (map string_bytes arguments.now) }
 {
@@ -59,7 +59,7 @@ pub fn asked_by(arguments: &[String]) -> Option<Asked<'_>>
     }
 }
 
-/// What is asked for, where each part of it changes the sheets.
+/// What is asked for, if each part of it changes the sheets.
 fn if_fitting<'a>(asked: Asked<'a>) -> Option<Asked<'a>>
     ensures { option_map wishes_of result ≡ if_fitting (Some (wishes_of asked.entry)) }
 {
@@ -120,8 +120,8 @@ fn has_groups(subject: Option<Subject>) -> bool
     }
 }
 
-/// Options ask for the same in any order, but for that of groups. The law is about its definitions only, and its function does
-/// nothing.
+/// Two adjacent options ask for the same in either order, unless both name a group. So options may come in any order that
+/// keeps the order of groups. The law is only about its definitions, and its function does nothing.
 pub fn options_come_in_any_order()
     ensures { (w : Wishes) (n v m u : List ℕ) (more : List (List ℕ)) → (is_group_option n && is_group_option m) ≡ false
         → asked_from (Some w) (option_words n v ++ (option_words m u ++ more))
@@ -146,8 +146,8 @@ fn no_groups<'a>() -> ArrayVec<Named<'a>, MOST_GROUPS>
     ArrayVec::new()
 }
 
-/// What options ask for beside others. A group may come 16 times, and each other option once, so this calls itself 20 times
-/// at most.
+/// What is asked for with these further options. A group may come 16 times, and each other kind of option once, so this
+/// calls itself at most 20 times.
 fn asked_from<'a>(asked: Asked<'a>, arguments: &'a [String]) -> Option<Asked<'a>>
     ensures { option_map wishes_of result ≡ asked_from (Some (wishes_of asked.entry)) (map string_bytes arguments.now) }
 {
@@ -169,14 +169,15 @@ fn asked_from<'a>(asked: Asked<'a>, arguments: &'a [String]) -> Option<Asked<'a>
     }
 }
 
-/// Whether it is an option without a value.
+/// Whether this names an option without a value.
 fn is_word(name: &str) -> bool
     ensures { result ≡ is_word name.now }
 {
     form_in(name).is_some() || subject_in(name).is_some()
 }
 
-/// What an option without a value asks for beside others. None where there is no such option, or one of its kind came before.
+/// What is asked for with one more option that has no value. None where there is no such option, or one of its kind came
+/// before.
 fn with_word<'a>(asked: Asked<'a>, name: &str) -> Option<Asked<'a>>
     ensures { option_map wishes_of result ≡ with_word (wishes_of asked.entry) name.now }
 {
@@ -213,7 +214,7 @@ fn with_subject<'a>(asked: Asked<'a>, subject: Subject) -> Option<Asked<'a>>
     }
 }
 
-/// The form of a word, if there is one.
+/// The form that a word names, if there is one.
 fn form_in(word: &str) -> Option<Form>
     ensures { result ≡ form_in word.now }
 {
@@ -226,7 +227,7 @@ fn form_in(word: &str) -> Option<Form>
     None
 }
 
-/// The subject of a word, if there is one.
+/// The subject that a word names, if there is one.
 fn subject_in(word: &str) -> Option<Subject>
     ensures { result ≡ subject_in word.now }
 {
@@ -242,7 +243,8 @@ fn subject_in(word: &str) -> Option<Subject>
     None
 }
 
-/// What an option with a value asks for beside others. None where there is no such option, or it can't come after them.
+/// What is asked for with one more option and its value. None where there is no such option, or where it can't follow those
+/// before it.
 fn with_option<'a>(asked: Asked<'a>, name: &str, value: &'a str) -> Option<Asked<'a>>
     ensures { option_map wishes_of result ≡ with_option (wishes_of asked.entry) name.now value.now }
 {
@@ -282,7 +284,7 @@ fn with_among<'a>(asked: Asked<'a>, peers: &'a str) -> Option<Asked<'a>>
     }
 }
 
-/// A group more, if there is one, there is room for it, and no other has its name.
+/// What is asked for with one more group. None where there is no group or no room for it, or where another has its name.
 fn with_group<'a>(asked: Asked<'a>, group: Option<Named<'a>>) -> Option<Asked<'a>>
     ensures { option_map wishes_of result ≡ with_group (wishes_of asked.entry) (option_map group_of group.entry) }
 {
@@ -351,7 +353,7 @@ fn is_name_byte(byte: u8) -> bool
     byte.is_ascii_alphanumeric() || byte == b'_' || byte == b'-'
 }
 
-/// Says how the program is called, or a front of that, and gives the status for wrong arguments.
+/// Writes the usage line, or a front of it, to `errors`, and returns the status for wrong arguments.
 #[tactic(auto, unfolding(crate::specs::Arguments::usage))]
 pub fn refuse<E: Write>(errors: &mut E) -> ExitCode
     ensures { IsRefusedSo usage wrong_arguments (exit_status result) (E.contents errors.old) (E.contents errors.new) }

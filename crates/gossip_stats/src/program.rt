@@ -68,7 +68,7 @@ fn printed(
     written(alloc, asked.form, sheets.as_slice())
 }
 
-/// The groups that are asked for, as sheets take them.
+/// The groups that are asked for, in the form that sheets need.
 fn groups_of<'a>(alloc: Global, named: &[Named<'a>]) -> Result<Seq<Group<'a>>, AllocError>
     ensures { IfOk result (λ groups. map group_wish groups ≡ map group_of named.now) }
 {
@@ -110,9 +110,9 @@ fn written(alloc: Global, form: Option<Form>, sheets: &[Sheet]) -> Result<Vec<u8
     }
 }
 
-/// Runs the program with these arguments over these streams, and gives the status that its process ends with. Where the
-/// arguments ask for something, its ends are those of `gossip_sim`, and its text is what they ask for. Else it reads no
-/// input, says on `errors` how it is called, and ends with 64.
+/// Runs the program with these arguments over these streams, and returns the exit status of its process. Where the arguments
+/// ask for something, it ends as `gossip_sim` does, and its text is what they ask for. Otherwise it reads no input, writes
+/// the usage line or a front of it to `errors`, and ends with 64.
 pub fn run<R, W, E>(
     alloc: Global,
     arguments: &[String],

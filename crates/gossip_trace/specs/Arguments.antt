@@ -5,7 +5,7 @@ use Rattle.gs_trace.specs.declared.wanted.RoundSpan.{RoundSpan}
 use Rattle.gs_trace.specs.Wanted.{Wishes, no_wish}
 use Rattle.gs_trace.specs.Spans.{rounds_in}
 
--- one wish more, where there was none of its kind
+-- with one more option, if none of its kind came before
 abbrev pub once : {A : Type 0} → Option A → Option Wishes → Option Wishes
 once None wishes = wishes
 once (Some before) wishes = None
@@ -22,7 +22,7 @@ abbrev pub with_events : Wishes → List ℕ → Option Wishes
 with_events w words =
     once w.events (Some (record { peer = w.peer; topic = w.topic; rounds = w.rounds; events = Some words }))
 
--- rounds that were spelled as `A..B`
+-- rounds that were spelled in the form `A..B`
 abbrev pub with_these : Wishes → Option RoundSpan → Option Wishes
 with_these w None = None
 with_these w (Some rounds) =
@@ -31,7 +31,8 @@ with_these w (Some rounds) =
 abbrev pub with_rounds : Wishes → Option RoundSpan → Option Wishes
 with_rounds w rounds = once w.rounds (with_these w rounds)
 
--- what an option asks for beside others: none where there is no such option, or it came before
+-- what is asked for with one more option and its value: None where there is no such option, where it came before, or where
+-- its value is wrong
 abbrev pub with_option : Wishes → List ℕ → List ℕ → Option Wishes
 with_option w name value =
     if same_bytes name (codes "--peer") then with_peer w value
@@ -40,17 +41,17 @@ with_option w name value =
     else if same_bytes name (codes "--events") then with_events w value
     else None
 
--- what options ask for beside others, each with its value
+-- what is asked for with these further options, each with its value
 abbrev pub asked_from : Option Wishes → List (List ℕ) → Option Wishes
 asked_from None arguments = None
 asked_from (Some w) [] = Some w
 asked_from (Some w) (name ∷ []) = None
 asked_from (Some w) (name ∷ value ∷ more) = asked_from (with_option w name value) more
 
--- what the arguments ask for: all lines where there are none
+-- what the arguments ask for: all lines where there are no arguments
 abbrev pub asked_for : List (List ℕ) → Option Wishes
 asked_for arguments = asked_from (Some no_wish) arguments
 
--- what is said where they ask for nothing that there is
+-- the line that is written for wrong arguments
 unfoldable pub usage : List ℕ
 usage = codes "usage: gossip_trace [--peer NAME] [--topic TOPIC] [--rounds A..B] [--events A,B,..]\n"

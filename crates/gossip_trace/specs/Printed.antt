@@ -9,7 +9,7 @@ use Rattle.gs_trace.specs.declared.fault.TraceFault.TheVariants as faults
 use Rattle.gs_trace.specs.Wanted.{Wishes, wanted_text}
 use Rattle.gossip_trace.specs.Arguments.{usage}
 
--- what a fault of a trace is to a printer
+-- what a fault of writing a trace means to a printer
 abbrev pub as_printed : TraceFault → PrintFault
 as_printed faults.NoMemory = prints.CutOff
 as_printed faults.WriteFailed = prints.WriteFailed

@@ -14,15 +14,15 @@ use std::process::ExitCode;
 pub const USAGE: &str =
     "usage: gossip_trace [--peer NAME] [--topic TOPIC] [--rounds A..B] [--events A,B,..]\n";
 
-/// The lines that the arguments ask for: all where there are none. None where they ask for nothing that there is.
+/// Returns which lines the arguments ask for: all where there are no arguments. Returns None where they are wrong.
 pub fn asked_by(arguments: &[String]) -> Option<Wanted<'_>>
     ensures { option_map wishes_of result ≡ asked_for (map string_bytes arguments.now) }
 {
     asked_from(all_lines(), arguments)
 }
 
-/// What options ask for beside others, each with its value. An option comes once at most, so this calls itself four times at
-/// most.
+/// What is asked for with these further options, each with its value. An option may come at most once, so this calls itself
+/// at most four times.
 fn asked_from<'a>(wanted: Wanted<'a>, arguments: &'a [String]) -> Option<Wanted<'a>>
     ensures { option_map wishes_of result ≡ asked_from (Some (wishes_of wanted.entry)) (map string_bytes arguments.now) }
 {
@@ -36,7 +36,8 @@ fn asked_from<'a>(wanted: Wanted<'a>, arguments: &'a [String]) -> Option<Wanted<
     }
 }
 
-/// What an option asks for beside others. None where there is no such option, or it came before.
+/// What is asked for with one more option and its value. None where there is no such option, where it came before, or where
+/// its value is wrong.
 fn with_option<'a>(wanted: Wanted<'a>, name: &str, value: &'a str) -> Option<Wanted<'a>>
     ensures { option_map wishes_of result ≡ with_option (wishes_of wanted.entry) name.now value.now }
 {
@@ -106,7 +107,7 @@ fn with_rounds<'a>(wanted: Wanted<'a>, rounds: Option<RoundSpan>) -> Option<Want
     }
 }
 
-/// Says how the program is called, or a front of that, and gives the status for wrong arguments.
+/// Writes the usage line, or a front of it, to `errors`, and returns the status for wrong arguments.
 #[tactic(auto, unfolding(crate::specs::Arguments::usage))]
 pub fn refuse<E: Write>(errors: &mut E) -> ExitCode
     ensures { IsRefusedSo usage wrong_arguments (exit_status result) (E.contents errors.old) (E.contents errors.new) }

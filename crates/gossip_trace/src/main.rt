@@ -1,4 +1,5 @@
-//! Prints the trace of a run: reads a scenario, runs it, and writes what each peer heard, decided, sent and remembered, and what came to nothing.
+//! Prints the trace of a run: reads a scenario, runs it, and writes what each peer heard, decided, sent and remembered, and
+//! what had no effect.
 #![tactic(auto)]
 
 mod arguments;

@@ -16,7 +16,7 @@ use std::alloc::Global;
 use std::io::{Read, Write};
 use std::process::ExitCode;
 
-/// Makes the lines that are wanted of the trace of a run.
+/// Makes those lines of the trace of a run that are asked for.
 #[derive(Clone, Copy, Debug, Drop)]
 struct TraceOf<'a> {
     wanted: Wanted<'a>,
@@ -42,7 +42,7 @@ impl<'a> Printer for TraceOf<'a> {
     }
 }
 
-/// What a fault of a trace is to a printer. Where there was no memory, a front of the text may have been written.
+/// What a fault of writing a trace means to a printer. A front of the text may have been written before memory ran out.
 fn as_printed(fault: TraceFault) -> PrintFault
     ensures { result ≡ as_printed fault }
 {
@@ -52,10 +52,10 @@ fn as_printed(fault: TraceFault) -> PrintFault
     }
 }
 
-/// Runs the program with these arguments over these streams, and gives the status that its process ends with. Where the
-/// arguments ask for something, its ends are those of `gossip_sim`, and its text has the lines that they ask for. Where it
-/// runs out of memory for the rest of them, a front of the text is on the output. Else it reads no input, says on `errors`
-/// how it is called, and ends with 64.
+/// Runs the program with these arguments over these streams, and returns the exit status of its process. Where the arguments
+/// ask for something, it ends as `gossip_sim` does, and its text has the lines that they ask for. If it runs out of memory
+/// for the rest of them, a front of the text is on the output. Otherwise it reads no input, writes the usage line or a front
+/// of it to `errors`, and ends with 64.
 pub fn run<R, W, E>(
     alloc: Global,
     arguments: &[String],
@@ -77,7 +77,7 @@ where
     }
 }
 
-/// Runs the program for the lines that are wanted.
+/// Runs the program for the lines that are asked for.
 fn run_to_exit<R, W, E>(
     alloc: Global,
     wanted: Wanted<'_>,

@@ -1,4 +1,4 @@
--- When names are the same, what an absent one stands for, and what messages are known by.
+-- When names are equal, what an absent one stands for, and what identifies messages.
 use Rattle.std.specs.Prelude.{◌≡◌, ℕ, Bool, nat_eq, ◌||◌, if◌then◌else◌, List, [], length, map, Option, Some, None, is_some, unwrap_or}
 use Rattle.std.specs.Cmp.Lexicographic.{pointwise}
 use Rattle.sha2.specs.Sha256.{sha256}
@@ -21,7 +21,7 @@ same_topic t u = pointwise nat_eq t.0 u.0
 abbrev pub same_id : MsgId → MsgId → Bool
 same_id x y = pointwise nat_eq x.0 y.0
 
--- how many bytes a topic has at most that a peer subscribes to or publishes on
+-- the most bytes in a topic that a peer subscribes to or publishes on
 abbrev pub longest_topic : ℕ
 longest_topic = 1_024
 
@@ -40,11 +40,11 @@ topic_of m = topic_or_empty m.topic
 abbrev pub payload_of : Message → List ℕ
 payload_of m = unwrap_or m.payload []
 
--- as long as the identifier of a message
+-- bytes as long as the identifier of a message
 abbrev pub HasIdentifierLength : List ℕ → Type 0
 HasIdentifierLength bytes = length bytes ≡ 32
 
--- the identifier that these bytes are, if they have its length
+-- the identifier with these bytes, if they have its length
 abbrev pub id_of : List ℕ → Option MsgId
 id_of bytes = if nat_eq (length bytes) 32 then Some (record { 0 = bytes }) else None
 
@@ -52,7 +52,7 @@ id_of bytes = if nat_eq (length bytes) 32 then Some (record { 0 = bytes }) else 
 unfoldable pub message_id : List ℕ → MsgId
 message_id payload = record { 0 = sha256 payload }
 
--- an author, a number, a signature or a key is there, even an empty one, which StrictNoSign forbids
--- (libp2p pubsub, "Signature Policy Options")
+-- a message has an author, a number, a signature or a key, even an empty one: StrictNoSign forbids these (libp2p pubsub,
+-- "Signature Policy Options")
 abbrev pub is_signed : Message → Bool
 is_signed m = is_some m.origin || (is_some m.seqno || (is_some m.signature || is_some m.key))

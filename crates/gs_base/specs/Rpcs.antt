@@ -9,7 +9,7 @@ use Rattle.gs_base.specs.declared.control.IWant.{IWant}
 use Rattle.gs_base.specs.declared.control.Graft.{Graft}
 use Rattle.gs_base.specs.declared.control.Prune.{Prune}
 
--- the longest backoff that is asked for, or heeded, in seconds
+-- the longest backoff that a router asks for or obeys, in seconds
 abbrev pub longest_backoff : ℕ
 longest_backoff = 86_400
 
@@ -42,7 +42,7 @@ unsigned topic payload = record {
   key = None;
 }
 
--- what a list has at a place, counted from 0, and what counts as that where it has nothing there
+-- the part at a place of a list, counted from 0, or the given part if the list has none there
 abbrev pub part_at : {P : Type 0} → P → List P → ℕ → P
 part_at bare parts place = unwrap_or (slice_get parts place) bare
 
@@ -66,7 +66,7 @@ abbrev pub prunes_in : Option Control → List Prune
 prunes_in None = []
 prunes_in (Some control) = control.prune
 
--- a message by itself, as it was heard
+-- an RPC with only one message, as it was heard
 abbrev pub passed_on : Message → Rpc
 passed_on message = record empty_rpc { publish = message ∷ [] }
 
@@ -90,8 +90,8 @@ grafting topic = record empty_rpc {
   control = Some (record empty_control { graft = record { topic = Some topic } ∷ [] });
 }
 
--- an RPC that says that its receiver was pruned, and for how many seconds it is not to come back (gossipsub v1.1,
--- "Prune Backoff")
+-- an RPC that says that its receiver was pruned, and for how many seconds it must not come back (gossipsub v1.1, "Prune
+-- Backoff")
 abbrev pub pruning : Topic → ℕ → Rpc
 pruning topic seconds = record empty_rpc {
   control

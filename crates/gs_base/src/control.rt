@@ -115,13 +115,13 @@ impl Part for Graft {
     }
 }
 
-/// The sender takes the receiver out of its mesh (`ControlPrune`). Peers that it offers in exchange
-/// are not kept.
+/// The sender takes the receiver out of its mesh (`ControlPrune`). The peers that it offers in exchange are not kept.
 #[derive(Debug, Drop, PartialEq, Eq)]
 pub struct Prune {
     /// The topic of the mesh (`topicID`).
     pub topic: Option<Topic>,
-    /// For how long the receiver is not to graft, in seconds. Absent and 0 mean the receiver's own `prune_backoff_s`.
+    /// For how long the receiver must not graft the sender, in seconds. If it is absent or 0, the receiver uses its own
+    /// `prune_backoff_s`.
     pub backoff: Option<u64>,
 }
 
@@ -153,7 +153,7 @@ impl Part for Prune {
     }
 }
 
-/// What peers say of their meshes and of what they have seen (`ControlMessage`).
+/// The control messages of an RPC: offers, requests, grafts and prunes (`ControlMessage`).
 #[derive(Debug, Drop, PartialEq, Eq)]
 pub struct Control {
     pub ihave: Seq<IHave>,
@@ -163,7 +163,7 @@ pub struct Control {
 }
 
 impl Control {
-    /// No control messages. It takes no memory.
+    /// Returns a `Control` without messages. It takes no memory.
     pub fn empty(alloc: Global) -> Control
         ensures { result ≡ empty_control }
     {

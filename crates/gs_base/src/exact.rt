@@ -1,11 +1,11 @@
-//! Clones that equal what they were made from: `Clone` by itself lets each type say what its copies are.
+//! Clones that equal their source. `Clone` by itself lets each type say what its copies are.
 ghost use Rattle.std.specs.Prelude.{◌≡◌, IfOk};
 ghost use Rattle.std.proofs.Common.{ap₂};
 
 use bytes::Bytes;
 use std::alloc::AllocError;
 
-/// A type whose clones equal their source, so that a copied RPC is the RPC.
+/// A type whose clones equal their source, so that a copy of an RPC equals the RPC.
 pub trait ExactClone: Clone {
     /// A clone equals its source.
     ghost exact: { (source copy : Self) → Self.is_clone source copy → copy ≡ source };
@@ -20,20 +20,20 @@ impl<A: ExactClone, B: ExactClone> ExactClone for (A, B) {
         ap₂ (λ a b. (a, b)) (A.exact source.0 copy.0 same.0) (B.exact source.1 copy.1 same.1) };
 }
 
-/// A clone, which equals its source.
+/// Returns a clone, which equals its source.
 ///
 /// # Errors
-/// `AllocError` where there was no memory for it.
+/// `AllocError` when out of memory.
 pub fn clone_of<T: ExactClone>(value: &T) -> Result<T, AllocError>
     ensures { IfOk result (λ copy. copy ≡ value.now) }
 {
     value.clone()
 }
 
-/// A clone of an optional value, which equals its source.
+/// Returns a clone of an optional value, which equals its source.
 ///
 /// # Errors
-/// `AllocError` where there was no memory for it.
+/// `AllocError` when out of memory.
 #[inline(always)]
 pub fn clone_option<T: ExactClone>(value: &Option<T>) -> Result<Option<T>, AllocError>
     ensures { IfOk result (λ copy. copy ≡ value.now) }

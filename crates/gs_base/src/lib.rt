@@ -1,5 +1,5 @@
-//! Names of peers, topics and messages, neighbours, and the RPCs that gossipsub peers send each other,
-//! over lists and texts that contracts see as their elements and bytes.
+//! Names of peers, topics and messages, neighbours, and the RPCs that gossipsub peers send each other. Contracts see lists
+//! as their elements, and texts as their bytes.
 #![tactic(auto)]
 
 mod control;

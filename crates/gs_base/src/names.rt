@@ -12,12 +12,12 @@ use std::hash::{Hash, Hasher};
 #[derive(Clone, Copy, Debug, PartialEq, Eq, PartialOrd, Ord, Hash)]
 pub struct PeerNo(pub u16);
 
-/// A topic. It is any bytes: whether they are UTF-8 is not looked at.
+/// A topic: any bytes. Nothing checks whether they are UTF-8.
 #[derive(Debug, Drop, PartialEq, Eq, PartialOrd, Ord)]
 pub struct Topic(pub Bytes);
 
-/// All of it is hashed at once, and not byte by byte. Hash maps are `IndexMap`s in all crates: the order of their
-/// entries is that of insertion, so no trace and no report depends on a hash.
+/// A topic is hashed as one block, and not byte by byte. Hash maps are `IndexMap`s in all crates. Their entries have the
+/// order of insertion, so no trace and no report depends on a hash.
 impl Hash for Topic {
     ghost use Rattle.std.specs.Prelude.{[], ◌∷◌};
     ghost use Rattle.std.proofs.Common.{rules};
@@ -44,10 +44,10 @@ impl ExactClone for Topic {
 }
 
 impl Topic {
-    /// The topic that is named; an absent one is the empty one.
+    /// Returns the named topic, or the empty topic if it is absent.
     ///
     /// # Errors
-    /// `AllocError` where there was no memory for it.
+    /// `AllocError` when out of memory.
     pub fn or_empty(topic: &Option<Topic>) -> Result<Topic, AllocError>
         ensures { IfOk result (λ named. named ≡ topic_or_empty topic.now) }
     {
@@ -71,7 +71,7 @@ const ID_LENGTH: usize = 32;
 #[derive(Clone, Copy, Debug, PartialEq, Eq, PartialOrd, Ord)]
 pub struct MsgId(pub [u8; 32]);
 
-/// All of it is hashed at once. An array would be byte by byte, at five times the cost.
+/// An identifier is hashed as one block. An array would be hashed byte by byte, at five times the cost.
 impl Hash for MsgId {
     ghost use Rattle.std.specs.Prelude.{[], ◌∷◌};
     ghost use Rattle.std.proofs.Common.{rules};
@@ -86,7 +86,7 @@ impl Hash for MsgId {
 }
 
 impl MsgId {
-    /// The SHA-256 of the payload only: neither the topic nor the author counts, so one payload on two topics is one
+    /// Returns the SHA-256 of the payload. Neither the topic nor the author counts, so one payload on two topics is one
     /// message.
     pub fn of(payload: &[u8]) -> MsgId
         ensures { result ≡ message_id payload.now }
@@ -94,7 +94,7 @@ impl MsgId {
         MsgId(Sha256::digest(payload))
     }
 
-    /// The identifier that these bytes are, if they have its length, 32.
+    /// Returns the identifier with these bytes, or `None` if there are not 32 of them.
     pub fn from_bytes(bytes: &[u8]) -> Option<MsgId>
         ensures { result ≡ id_of bytes.now }
     {
@@ -104,7 +104,7 @@ impl MsgId {
         Some(MsgId::from_exact(bytes))
     }
 
-    /// The identifier that these bytes are, which have its length.
+    /// Returns the identifier with these 32 bytes.
     pub fn from_exact(bytes: &[u8]) -> MsgId
         requires { HasIdentifierLength bytes.now }
         ensures { result.0 ≡ bytes.now }
@@ -119,7 +119,7 @@ impl MsgId {
 #[derive(Clone, Copy, Debug, PartialEq, Eq, PartialOrd, Ord, Hash)]
 pub struct Millis(pub u64);
 
-/// The limits of topics are those of the definitions.
+/// The limits of topics in code equal those in the definitions.
 pub fn limits_of_topics()
     ensures longest { LONGEST_TOPIC ≡ longest_topic }
     ensures most { MOST_TOPICS ≡ most_topics }

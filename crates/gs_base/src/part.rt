@@ -1,4 +1,4 @@
-//! What RPCs have lists of, and one of them in an RPC that is shared.
+//! The parts that RPCs have lists of, and one part within a shared RPC.
 ghost use Rattle.std.specs.Prelude.{◌≡◌, ◌<◌, List, length, None, IfOk};
 ghost use Rattle.gs_base.specs.declared.rpc.Rpc.{Rpc as RpcValue};
 ghost use Rattle.gs_base.specs.Rpcs.{part_at};
@@ -11,12 +11,12 @@ use std::alloc::{AllocError, Global};
 use std::fmt::{Debug, Error, Formatter, Write};
 use std::marker::{Model, PhantomData};
 
-/// What an RPC has a list of: changes of subscription, messages, and each kind of control message.
+/// A kind of part that an RPC has a list of: changes of subscription, messages, and each kind of control message.
 pub trait Part: Drop {
     /// The list of an RPC.
     ghost parts: { RpcValue → List Self };
 
-    /// One without any field: where a list has none at a place, it counts as this.
+    /// A part without any field. It stands for a part at a place where the list has none.
     ghost bare: { Self };
 
     /// The list of an RPC.
@@ -44,8 +44,8 @@ impl Part for Message {
     }
 }
 
-/// One part of an RPC that its owners share: whoever holds it holds the RPC, and a clone copies nothing. Contracts see the
-/// part, and neither the RPC nor its place there.
+/// One part of a shared RPC. A holder of the part holds the RPC, and a clone copies nothing. Contracts see the part, but
+/// neither the RPC nor the part's place in it.
 #[derive(Drop)]
 pub struct SharedPart<P: Part> {
     rpc: Shared<Rpc>,
@@ -67,7 +67,7 @@ impl<P: Part> Model for SharedPart<P> {
 }
 
 impl<P: Part> SharedPart<P> {
-    /// The part at a place of an RPC's list, counted from 0.
+    /// Returns the part at a place of an RPC's list, counted from 0.
     pub fn at(rpc: Shared<Rpc>, place: usize) -> SharedPart<P>
         requires { place < length (P.parts rpc) }
         ensures { result ≡ part_at P.bare (P.parts rpc) place }
@@ -79,7 +79,7 @@ impl<P: Part> SharedPart<P> {
         }
     }
 
-    /// The part.
+    /// Returns the part.
     pub fn get(&self) -> &P
         ensures { result.now ≡ self.now }
     {
@@ -88,10 +88,10 @@ impl<P: Part> SharedPart<P> {
 }
 
 impl Message {
-    /// The message by itself, shared.
+    /// Returns the message as a shared part, in an RPC without other parts.
     ///
     /// # Errors
-    /// `AllocError` where there was no memory for it.
+    /// `AllocError` when out of memory.
     pub fn share(self, alloc: Global) -> Result<SharedPart<Message>, AllocError>
         ensures { IfOk result (λ shared. shared ≡ self) }
     {
@@ -133,7 +133,7 @@ impl<P: Part + Eq> Eq for SharedPart<P> {
     ghost laws = { P.Eq.laws };
 }
 
-/// It is shown as the part.
+/// Shows the part only.
 impl<P: Part + Debug> Debug for SharedPart<P> {
     fn fmt<W: Write>(&self, formatter: &mut Formatter<W>) -> Result<(), Error> {
         self.get().fmt(formatter)

@@ -35,10 +35,10 @@ impl Clone for SubOpt {
 }
 
 impl SubOpt {
-    /// Its topic; an absent one is the empty one.
+    /// Returns the topic, or the empty topic if it is absent.
     ///
     /// # Errors
-    /// `AllocError` where there was no memory for it.
+    /// `AllocError` when out of memory.
     pub fn topic_or_empty(&self) -> Result<Topic, AllocError>
         ensures { IfOk result (λ topic. topic ≡ topic_or_empty self.now.topic) }
     {
@@ -53,11 +53,12 @@ impl ExactClone for SubOpt {
 /// A published message (`Message`). Under StrictNoSign only `payload` and `topic` are present.
 #[derive(Debug, Drop, PartialEq, Eq)]
 pub struct Message {
-    /// The author (`from`). This field and the others that StrictNoSign forbids stand apart, so that a message is small.
+    /// The author (`from`). This field and the others that StrictNoSign forbids are stored outside the message, so that it
+    /// is small.
     pub origin: Option<Shared<Bytes>>,
     /// What is published (`data`).
     pub payload: Option<Bytes>,
-    /// The author's number of the message (`seqno`).
+    /// The number that the author gave the message (`seqno`).
     pub seqno: Option<Shared<Bytes>>,
     /// The topic that it is published on.
     pub topic: Option<Topic>,
@@ -70,7 +71,7 @@ pub struct Message {
 impl Clone for Message {
     ghost is_clone = { λ source copy. copy ≡ source };
 
-    // Each message that is heard is cloned: inlined, its fields are written once, where they belong.
+    // Each message that is heard is cloned. Inlined, the clone writes each field once, to its final place.
     #[inline(always)]
     fn clone(&self) -> Result<Message, AllocError> {
         Ok(Message {
@@ -85,7 +86,7 @@ impl Clone for Message {
 }
 
 impl Message {
-    /// One without any field. It takes no memory.
+    /// Returns a message without any field. It takes no memory.
     pub fn bare() -> Message
         ensures { result
             ≡ record { origin = None; payload = None; seqno = None; topic = None; signature = None; key = None } }
@@ -100,10 +101,10 @@ impl Message {
         }
     }
 
-    /// One under StrictNoSign, with only a payload and a topic. It shares both.
+    /// Returns a message under StrictNoSign, with only a payload and a topic. It shares both.
     ///
     /// # Errors
-    /// `AllocError` where there was no memory for it.
+    /// `AllocError` when out of memory.
     pub fn unsigned(topic: &Topic, payload: &Bytes) -> Result<Message, AllocError>
         ensures { IfOk result (λ message. message ≡ unsigned topic.now payload.now) }
     {
@@ -117,17 +118,17 @@ impl Message {
         })
     }
 
-    /// The topic that it is on; an absent one is the empty one.
+    /// Returns the message's topic, or the empty topic if it is absent.
     ///
     /// # Errors
-    /// `AllocError` where there was no memory for it.
+    /// `AllocError` when out of memory.
     pub fn topic_or_empty(&self) -> Result<Topic, AllocError>
         ensures { IfOk result (λ topic. topic ≡ topic_of self.now) }
     {
         Topic::or_empty(&self.topic)
     }
 
-    /// What it carries; an absent payload is the empty one.
+    /// Returns the bytes of the payload, or no bytes if it is absent.
     pub fn payload_bytes(&self) -> &[u8]
         ensures { result.now ≡ payload_of self.now }
     {
@@ -137,10 +138,10 @@ impl Message {
         }
     }
 
-    /// What it carries, shared; an absent payload is the empty one.
+    /// Returns the payload, shared, or the empty payload if it is absent.
     ///
     /// # Errors
-    /// `AllocError` where there was no memory for it.
+    /// `AllocError` when out of memory.
     pub fn payload_or_empty(&self) -> Result<Bytes, AllocError>
         ensures { IfOk result (λ payload. payload ≡ payload_of self.now) }
     {
@@ -150,8 +151,8 @@ impl Message {
         }
     }
 
-    /// Whether it has a field that StrictNoSign forbids, even an empty one (libp2p pubsub, Signature
-    /// Policy Options).
+    /// Says whether the message has a field that StrictNoSign forbids, even an empty one (libp2p pubsub, Signature Policy
+    /// Options).
     pub fn is_signed(&self) -> bool
         ensures { result ≡ is_signed self.now }
     {
@@ -173,7 +174,7 @@ pub struct Rpc {
     pub subs: Seq<SubOpt>,
     /// The messages that it passes on.
     pub publish: Seq<Message>,
-    /// What it says of meshes and of what it has seen.
+    /// The sender's offers, requests, grafts and prunes.
     pub control: Option<Control>,
 }
 

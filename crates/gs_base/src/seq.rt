@@ -5,8 +5,8 @@ use crate::exact::{ExactClone, clone_of};
 use std::alloc::{AllocError, Global};
 use std::marker::Model;
 
-/// A list. Contracts see its elements in order, and neither its capacity nor its place in memory,
-/// so that two RPCs with equal elements are one value.
+/// A list. Contracts see its elements in order, but neither its capacity nor its place in memory. So two RPCs with equal
+/// elements are the same value.
 #[derive(Debug, Drop)]
 pub struct Seq<T> {
     items: Vec<T>,
@@ -21,7 +21,7 @@ impl<T> Model for Seq<T> {
 }
 
 impl<T> Seq<T> {
-    /// The empty list. It takes no memory.
+    /// Returns the empty list. It takes no memory.
     pub fn new(alloc: Global) -> Seq<T>
         ensures { result ≡ [] }
     {
@@ -30,7 +30,7 @@ impl<T> Seq<T> {
         }
     }
 
-    /// The elements as a vector. It takes no memory.
+    /// Returns the elements as a vector. It takes no memory.
     pub fn into_vec(self) -> Vec<T>
         ensures { result.items ≡ self }
     {
@@ -38,21 +38,21 @@ impl<T> Seq<T> {
         items
     }
 
-    /// The elements in order.
+    /// Returns the elements in order.
     pub fn as_slice(&self) -> &[T]
         ensures { result.now ≡ self.now }
     {
         self.items.as_slice()
     }
 
-    /// How many elements there are.
+    /// Returns the number of elements.
     pub fn len(&self) -> usize
         ensures { result ≡ length self.now }
     {
         self.items.len()
     }
 
-    /// Whether there is no element.
+    /// Says whether the list is empty.
     pub fn is_empty(&self) -> bool
         ensures { result ≡ (length self.now == 0) }
     {
@@ -61,10 +61,10 @@ impl<T> Seq<T> {
 }
 
 impl<T: Drop> Seq<T> {
-    /// The list of one element, with no room for more.
+    /// Returns a list of one element, with no room for more.
     ///
     /// # Errors
-    /// `AllocError` where there was no memory for it.
+    /// `AllocError` when out of memory.
     pub fn only(alloc: Global, item: T) -> Result<Seq<T>, AllocError>
         ensures { IfOk result (λ list. list ≡ item ∷ []) }
     {
@@ -76,7 +76,7 @@ impl<T: Drop> Seq<T> {
     /// Adds an element at the end.
     ///
     /// # Errors
-    /// `AllocError` where there was no memory; the list is then as it was.
+    /// `AllocError` when out of memory; the list is then as it was.
     pub fn push(&mut self, item: T) -> Result<(), AllocError>
         ensures ok { OnOk result (self.new ≡ self.old ++ item ∷ []) }
         ensures err { OnErr result (self.new ≡ self.old) }
@@ -85,7 +85,7 @@ impl<T: Drop> Seq<T> {
         Ok(())
     }
 
-    /// Gives back the memory for elements to come.
+    /// Frees the memory that is reserved for further elements.
     pub fn shrink_to_fit(&mut self)
         ensures { self.new ≡ self.old }
     {

@@ -5,8 +5,8 @@ use std::alloc::{AllocError, Global};
 use std::marker::Model;
 use std::sync::Arc;
 
-/// A value that its owners share: a clone copies nothing, and whoever holds one has a word of it.
-/// Contracts see the value, and not who else has it.
+/// A value that several owners share. A clone copies nothing, and each owner holds one pointer. Contracts see the value,
+/// but not its other owners.
 #[derive(Debug, Drop)]
 pub struct Shared<T> {
     owned: Arc<T>,
@@ -23,7 +23,7 @@ impl<T> Model for Shared<T> {
 }
 
 impl<T> Shared<T> {
-    /// The value. No owner can change it, since all others have it too.
+    /// Returns the value. No owner can change it, since the others share it.
     pub fn get(&self) -> &T
         ensures { result.now ≡ self.now }
     {
@@ -32,10 +32,10 @@ impl<T> Shared<T> {
 }
 
 impl<T: Drop> Shared<T> {
-    /// A value with one owner.
+    /// Returns a value with one owner.
     ///
     /// # Errors
-    /// `AllocError` where there was no memory for it.
+    /// `AllocError` when out of memory.
     pub fn new(alloc: Global, value: T) -> Result<Shared<T>, AllocError>
         ensures { IfOk result (λ shared. shared ≡ value) }
     {

@@ -6,7 +6,7 @@ use crate::exact::ExactClone;
 use std::alloc::{AllocError, Global};
 use std::marker::Model;
 
-/// A text. Contracts see its UTF-8 bytes, and neither its capacity nor its place in memory.
+/// A text. Contracts see its UTF-8 bytes, but neither its capacity nor its place in memory.
 #[derive(Debug, Drop)]
 pub struct Text {
     text: String,
@@ -21,10 +21,10 @@ impl Model for Text {
 }
 
 impl Text {
-    /// A copy of a text.
+    /// Returns a copy of a text.
     ///
     /// # Errors
-    /// `AllocError` where there was no memory for it.
+    /// `AllocError` when out of memory.
     pub fn from_str(alloc: Global, text: &str) -> Result<Text, AllocError>
         ensures { IfOk result (λ copy. copy ≡ text.now) }
     {
@@ -33,7 +33,7 @@ impl Text {
         })
     }
 
-    /// The text as a slice, which copies nothing.
+    /// Returns the text as a slice, and copies nothing.
     pub fn as_str(&self) -> &str
         ensures { result.now ≡ self.now }
     {

@@ -1,4 +1,4 @@
-/// What a message was found to be (gossipsub v1.1, Extended Validators).
+/// The verdict on a message (gossipsub v1.1, Extended Validators).
 #[derive(Clone, Copy, Debug, PartialEq, Eq)]
 pub enum Verdict {
     /// It is delivered and passed on.

@@ -1,4 +1,4 @@
-//! Values and their lists. A crate is proved once more with its own tests, so these stand apart from what they call.
+//! Tests of values and their lists. The prover proves a crate again with its own tests, so these have a crate of their own.
 #![tactic(auto)]
 
 #[cfg(test)]

@@ -141,7 +141,7 @@ fn compares_explicit_neighbours(alloc: Global) -> Result<bool, AllocError> {
     Ok(is_same && other != explicit)
 }
 
-/// Where nothing else is said, a neighbour dialled, scores nothing by the application and is not explicit.
+/// By default a neighbour dialled, has the application score 0, and is not explicit.
 fn makes_a_neighbour(alloc: Global) -> Result<bool, AllocError> {
     let made = Neighbour::new(PeerNo(7), Bytes::copy_from_slice(alloc, b"a")?);
     let is_named = made.peer == PeerNo(7) && made.address.as_slice() == b"a".as_slice();

@@ -1,4 +1,4 @@
-//! A link, and a plain queue beside it: one thread fills it and empties it.
+//! A link, and a plain queue to compare it with: one thread fills and empties each.
 
 use crate::fault::BenchFault;
 use crate::measure::low_bits;
@@ -27,7 +27,7 @@ fn fill_link<R: Wait>(rt: &R, tx: &mut LinkTx) -> Result<(), BenchFault> {
     Ok(())
 }
 
-/// Answers the sum of the lengths of the pieces.
+/// Returns the sum of the lengths of the pieces.
 fn empty_link<R: Wait>(rt: &R, rx: &mut LinkRx) -> u32 {
     let mut sum: u32 = 0;
     for _ in 0..SLOTS {
@@ -63,7 +63,7 @@ fn fill_queue<R: Wait>(rt: &R, queue: &Queue) -> Result<(), BenchFault> {
     Ok(())
 }
 
-/// Answers the sum of the lengths of the pieces.
+/// Returns the sum of the lengths of the pieces.
 fn empty_queue<R: Wait>(rt: &R, queue: &Queue) -> u32 {
     let mut sum: u32 = 0;
     for _ in 0..SLOTS {

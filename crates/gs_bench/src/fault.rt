@@ -5,7 +5,7 @@ use std::alloc::AllocError;
 /// Why nothing was measured.
 #[derive(Clone, Copy, Debug)]
 pub(crate) enum BenchFault {
-    /// The line is not one that this program reads: it is `KIND COUNT`, as `decode-s 1000`.
+    /// The line is not one that this program reads. It must be `KIND COUNT`, such as `decode-s 1000`.
     Line,
     /// The codec refused a sample.
     Codec,
@@ -13,7 +13,7 @@ pub(crate) enum BenchFault {
     Full,
     /// The parameters or a mark were refused.
     Scores,
-    /// There was no memory.
+    /// Out of memory.
     NoMemory,
     /// Standard input or output failed.
     Stream,

@@ -8,7 +8,7 @@ use gs_base::Rpc;
 use gs_wire::{FrameReader, MAX_BODY, WireFault};
 use std::alloc::Global;
 
-/// Adds the three frames that a stream repeats, and answers how long it is after each of them.
+/// Adds the three frames that a stream repeats, and returns how long it is after each of them.
 fn add_cycle(alloc: Global, stream: &mut Vec<u8>) -> Result<[usize; 3], WireFault> {
     write_frame(alloc, Sample::Subscription, stream)?;
     let first = stream.len();
@@ -18,8 +18,8 @@ fn add_cycle(alloc: Global, stream: &mut Vec<u8>) -> Result<[usize; 3], WireFaul
     Ok([first, second, stream.len()])
 }
 
-/// Fills a stream with enough cycles for a piece that begins in the first to end in the last, and answers where the
-/// frames of the first end.
+/// Fills a stream with enough cycles for a piece that begins in the first to end in the last, and returns where the frames
+/// of the first end.
 fn fill(alloc: Global, piece: usize, stream: &mut Vec<u8>) -> Result<[usize; 3], WireFault> {
     let ends = add_cycle(alloc, stream)?;
     for _ in 0..(piece / ends[2].max(1)).saturating_add(1) {
@@ -28,7 +28,7 @@ fn fill(alloc: Global, piece: usize, stream: &mut Vec<u8>) -> Result<[usize; 3],
     Ok(ends)
 }
 
-/// Feeds a piece, and answers how much was in the RPCs that it ended.
+/// Feeds a piece, and returns how many elements were in the RPCs that it ended.
 fn feed_one(
     alloc: Global,
     piece: &[u8],
@@ -66,7 +66,7 @@ impl Portions {
     }
 }
 
-/// Feeds the pieces of a stream, which begins anew where a cycle ends.
+/// Feeds the pieces of a stream, which begins again where a cycle ends.
 fn feed_each(
     alloc: Global,
     stream: &[u8],

@@ -1,5 +1,5 @@
-//! Measures the codec, links and scores: for each line `KIND COUNT` it prints `KIND COUNT CHECKSUM`. It holds no
-//! work but theirs, so that the instructions between two counts are those of the operations.
+//! Measures the codec, links and scores: for each line `KIND COUNT` it prints `KIND COUNT CHECKSUM`. It does no other work,
+//! so that the instructions between two counts are those of the operations.
 #![tactic(auto)]
 
 mod carry;

@@ -11,9 +11,9 @@ use gs_wire::{WireFault, decode, encode};
 use std::alloc::Global;
 use std::sync::Wait;
 
-/// Does what the kind says `count` times, and answers the sum of what was found, modulo 2^32. That is the repeated
-/// elements of what was read, or the lengths of the bodies that were written or of the pieces that were taken, or the
-/// deliveries that were counted, or the scores in millionths.
+/// Does what the kind says `count` times, and returns the sum of what was found, modulo 2^32. What was found is the number
+/// of repeated elements of what was read, or the lengths of the bodies that were written or of the pieces that were taken,
+/// or the deliveries that were counted, or the scores in millionths.
 pub(crate) fn checksum<R: Wait>(
     rt: &R,
     alloc: Global,

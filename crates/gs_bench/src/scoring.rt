@@ -40,7 +40,7 @@ fn params(alloc: Global, topics: u8) -> Result<Params, BenchFault>
     }
 }
 
-/// The one neighbour, as `Scores::new` takes neighbours.
+/// The one neighbour, in the list that `Scores::new` takes.
 fn neighbours() -> [Neighbour; 1]
     ensures ascending { IsAscending (peers_of result) }
     ensures apps { All (λ (n : NeighbourValue). unsigned_abs n.app ≤ 10 ^ 12) result }

@@ -10,7 +10,7 @@ use Rattle.gs_base.specs.Rpcs.{most_identifiers}
 use Rattle.gs_cache.specs.declared.message_cache.Answer.{Answer}
 use Rattle.gs_cache.specs.declared.message_cache.Answer.TheVariants.{Given, Spent, Absent}
 
--- how many identifiers of a topic are announced at once at most: as many as one offer may have
+-- the most identifiers of a topic that are announced at once: as many as one offer may have
 abbrev pub most_announced : ℕ
 most_announced = most_identifiers
 
@@ -27,7 +27,7 @@ abbrev pub put_anew : MsgId → Topic → Message → MsgId → Option Cached �
 put_anew id topic message other before =
     if same_id id other then Some (record { age = 0; topic = topic; message = message }) else before
 
--- one shift more, which loses what was shifted so often
+-- one shift more: a message that was shifted `len` times is lost
 abbrev pub aged : ℕ → Option Cached → Option Cached
 aged len None = None
 aged len (Some c) =
@@ -37,28 +37,28 @@ aged len (Some c) =
 abbrev pub all_left : MsgId → ℕ → MsgId → Option ℕ → Option ℕ
 all_left id answers other before = if same_id id other then Some answers else before
 
--- and one less at an answer to it
+-- an answer to a neighbour leaves it one less
 abbrev pub one_less : MsgId → PeerNo → MsgId → PeerNo → Option ℕ → Option ℕ
 one_less id peer other q before =
     if same_id id other && same_peer peer q then option_map (λ n. n - 1) before else before
 
--- how many answers are left to a neighbour, by those that are left to some, where each gets `answers`
+-- how many answers are left to a neighbour, by those that are left to some, if each gets `answers`
 abbrev pub left_to : ℕ → PeerNo → List (PeerNo × ℕ) → ℕ
 left_to answers peer left = unwrap_or (lookup (same_peer peer) left) answers
 
--- a message that is put stands last, and no more where it stood
+-- a message that is put stands last, and no longer where it stood
 abbrev pub put_last : MsgId → List MsgId → List MsgId
 put_last id order = filter (λ other. not (same_id id other)) order ++ id ∷ []
 
 -- ---- a cache
 
--- the last put of a message, and how many answers are left to some neighbours; to all others are left as many as at a put
+-- the last put of a message, and how many answers are left to some neighbours; all others have as many left as at a put
 pub record Put : Type 0 where
   pub cached : Cached
   pub left : List (PeerNo × ℕ)
 
--- with how many shifts a message is lost, for how many it is announced, how many answers each neighbour gets, the last
--- puts, and the identifiers in the order of those, the oldest first
+-- The first numbers say after how many shifts a message is lost, for how many it is announced, and how many answers each
+-- neighbour gets. Then come the last puts, and the identifiers in the order of those puts, the oldest first.
 pub record Messages : Type 0 where
   pub len : ℕ
   pub gossip : ℕ
@@ -66,11 +66,11 @@ pub record Messages : Type 0 where
   pub puts : List (MsgId × Put)
   pub order : List MsgId
 
--- what is held of a message
+-- what is held about a message
 abbrev pub cached : Messages → MsgId → Option Cached
 cached m id = option_map (λ (p : Put). p.cached) (lookup (same_id id) m.puts)
 
--- how many answers are left to a neighbour, where the message is held
+-- how many answers are left to a neighbour, if the message is held
 abbrev pub left : Messages → MsgId → PeerNo → Option ℕ
 left m id peer = option_map (λ (p : Put). left_to m.answers peer p.left) (lookup (same_id id) m.puts)
 
@@ -80,7 +80,7 @@ pub record IsSetUpAlike (old new : Messages) : Type 0 where
   pub gossip : new.gossip ≡ old.gossip
   pub answers : new.answers ≡ old.answers
 
--- the message where an answer is left, and else why there is none
+-- the message if an answer is left, and otherwise why there is none
 abbrev pub IsAnswer : Answer → Option Cached → Option ℕ → Type 0
 IsAnswer (Given message) held n = (option_map (λ (c : Cached). c.message) held ≡ Some message.now) × (0 < unwrap_or n 0)
 IsAnswer Spent held n = n ≡ Some 0

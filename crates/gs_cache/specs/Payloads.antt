@@ -1,4 +1,4 @@
--- What is held of payloads.
+-- What is held about payloads.
 use Rattle.std.specs.Prelude.{◌≡◌, Option, IfSome}
 use Rattle.gs_base.specs.Names.{message_id}
 use Rattle.gs_cache.specs.declared.payloads.Known.{Known}

@@ -1,5 +1,5 @@
--- When messages were seen last, what that says at a moment, and how marks and notes change it. The steps speak of what
--- was known of one message, so that they serve a cache that forgets and a record of everything alike.
+-- When messages were seen last, what that says at a moment, and how marks and notes change it. The steps are about what was
+-- known of one message. So they serve both a cache that forgets and a record of everything.
 use Rattle.std.specs.Prelude.{◌≡◌, ℕ, ◌-◌, ◌≤◌, Bool, false, not, ◌&&◌, nat_lt, nat_le, if◌then◌else◌, List, [], ◌∷◌, ◌++◌, Option, Some, None, option_map}
 use Rattle.std.specs.List.{list_any}
 use Rattle.std.specs.Map.{lookup}
@@ -12,7 +12,7 @@ use Rattle.gs_cache.specs.declared.seen.sighting.Sighting.{Sighting}
 
 -- ---- what a sighting says
 
--- a sighting counts for less than the time after it
+-- a sighting counts until the given time has passed since it
 abbrev pub counting : ℕ → ℕ → Option Sighting → Option Sighting
 counting ttl now None = None
 counting ttl now (Some s) = if nat_lt (now - s.at.0) ttl then Some s else None
@@ -57,11 +57,11 @@ pub record Seen : Type 0 where
   pub moment : ℕ
   pub sightings : List (MsgId × Sighting)
 
--- the last sighting of a message, where it counts at a moment
+-- the last sighting of a message, if it counts at a moment
 abbrev pub what_counts : Seen → MsgId → ℕ → Option Sighting
 what_counts seen id now = counting seen.ttl now (lookup (same_id id) seen.sightings)
 
--- from a moment on, what counts of each message is what a step makes of what counted
+-- from a moment on, what counts of each message is what a step makes from what counted
 abbrev pub ChangesBy : (MsgId → Option Sighting → Option Sighting) → ℕ → Seen → Seen → Type 0
 ChangesBy step from old new =
     (id : MsgId) (now : ℕ) → from ≤ now

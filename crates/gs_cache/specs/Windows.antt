@@ -18,7 +18,7 @@ kept_at w id = lookup (same_id id) w.puts.entries
 abbrev pub has : Window → MsgId → Bool
 has w id = is_some (kept_at w id)
 
--- what the newest window that has a message keeps of it
+-- what the newest window that has a message keeps about it
 abbrev pub kept_in : List Window → MsgId → Option Kept
 kept_in [] id = None
 kept_in (w ∷ ws) id = option_or (kept_at w id) (kept_in ws id)
@@ -66,7 +66,7 @@ is_on topic (Some k) = same_topic k.topic topic
 abbrev pub is_listed_at : Window → Topic → ℕ → MsgId → Bool
 is_listed_at w topic place id = is_placed place (kept_at w id) && is_on topic (kept_at w id)
 
--- whether an identifier that a window has is announced, where these windows are newer
+-- whether an identifier that a window has is announced, if these windows are newer
 abbrev pub is_listed : List Window → Window → Topic → MsgId → Bool
 is_listed newer w topic id = is_on topic (kept_at w id) && not (list_any (λ n. has n id) newer)
 
@@ -109,7 +109,7 @@ core k = record { place = k.place; topic = k.topic; message = k.message }
 abbrev pub left_at : ℕ → Window → MsgId → PeerNo → Option ℕ
 left_at answers w id q = option_map (λ (k : Kept). left_to answers q k.left) (kept_at w id)
 
--- the same messages at the same places, and one answer less of one to a neighbour
+-- the same messages at the same places; a neighbour has one answer less left for one of them
 pub record Counts (answers : ℕ) (id : MsgId) (peer : PeerNo) (old new : Window) : Type 0 where
   pub order : new.order.items ≡ old.order.items
   pub cores : (other : MsgId) → option_map core (kept_at new other) ≡ option_map core (kept_at old other)

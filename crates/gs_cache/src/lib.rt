@@ -1,9 +1,9 @@
-//! What a gossipsub peer remembers of messages for a while: which ones it has seen, so that none is handled twice,
-//! and the latest ones whole, to offer them and to send them to who asks; and the identifiers of the latest
-//! payloads.
+//! What a gossipsub peer remembers about messages for a while. It remembers which ones it has seen, so that none is handled
+//! twice. It keeps the latest ones whole, to offer them and to send them to neighbours that ask. It also keeps the
+//! identifiers of the latest payloads.
 //!
-//! A call that would answer and change at once is two, `is_near` and `note`, `answer_for` and `count_answer`: a
-//! router makes an entry by what the first answers, and the second notes the entry.
+//! A call that would both answer and change something is split in two, such as `is_near` and `note`, or `answer_for` and
+//! `count_answer`. A router makes an entry from what the first one answers, and the second one notes the entry.
 #![tactic(auto)]
 
 mod laws;

@@ -25,14 +25,14 @@ pub enum Answer<'a> {
     Absent,
 }
 
-/// The messages of the last heartbeats, to announce their identifiers and to send them to who asks (gossipsub
+/// The messages of the last heartbeats, to announce their identifiers and to send them to neighbours that ask (gossipsub
 /// v1.0, "Message Cache").
 ///
 /// A message is held until the cache was shifted `len` times since its last put, and is announced until it was
 /// shifted `gossip` times. Each neighbour gets it at most `answers` times since its last put.
 ///
-/// Puts lie in `len` windows, the newest first. A put goes into the newest window; an older window may still have
-/// an earlier put of the same message, which nothing finds. A look-up costs at most one hash look-up a window.
+/// Puts lie in `len` windows, the newest first. A put goes into the newest window; an older window may still have an earlier
+/// put of the same message, which nothing finds. A look-up costs at most one hash look-up per window.
 #[derive(Drop)]
 pub struct MessageCache {
     alloc: Global,
@@ -60,11 +60,11 @@ impl Model for MessageCache {
 }
 
 impl MessageCache {
-    /// No message is held. One will be until the `len`-th shift after its last put, and announced until the
-    /// `gossip`-th, and be given to each neighbour `answers` times. `len` is 1 at least.
+    /// Returns a cache without messages. A message will be held until the `len`-th shift after its last put, and announced
+    /// until the `gossip`-th. Each neighbour will get it at most `answers` times. `len` is at least 1.
     ///
     /// # Errors
-    /// `AllocError` where there was no memory.
+    /// `AllocError` if memory runs out.
     pub fn new(
         alloc: Global,
         len: usize,
@@ -92,11 +92,11 @@ impl MessageCache {
         })
     }
 
-    /// Puts a message that was published on a topic. Where it is held, this put takes the place of the last one:
-    /// it counts as new, on this topic, and answers that were given are forgotten.
+    /// Puts a message that was published on a topic. If the message is held, this put replaces the last one. The message
+    /// counts as new, on this topic, and the answers that were given are forgotten.
     ///
     /// # Errors
-    /// `AllocError` where there was no memory; the cache is then as it was.
+    /// `AllocError` if memory runs out. The cache is then as it was.
     pub fn put(
         &mut self,
         id: MsgId,
@@ -115,8 +115,8 @@ impl MessageCache {
         Ok(())
     }
 
-    /// What a neighbour gets that asks for a message (gossipsub v1.0, "Control Messages", IWANT; v1.1, "Spam Protection
-    /// Measures").
+    /// Returns what a neighbour gets when it asks for a message (gossipsub v1.0, "Control Messages", IWANT; v1.1, "Spam
+    /// Protection Measures").
     pub fn answer_for(&self, id: &MsgId, peer: PeerNo) -> Answer<'_>
         ensures { IsAnswer result (cached self.now id.now) (left self.now id.now peer) }
     {
@@ -131,7 +131,7 @@ impl MessageCache {
         }
     }
 
-    /// How many answers are left to a neighbour: none where the message is not held (gossipsub v1.1, "Spam Protection
+    /// Returns how many answers are left to a neighbour: none if the message is not held (gossipsub v1.1, "Spam Protection
     /// Measures").
     pub fn left_for(&self, id: &MsgId, peer: PeerNo) -> u64
         ensures { result ≡ unwrap_or (left self.now id.now peer) 0 }
@@ -142,11 +142,11 @@ impl MessageCache {
         }
     }
 
-    /// Counts an answer that a neighbour got: one less is left to it, where one is (gossipsub v1.1, "Spam Protection
+    /// Counts an answer that a neighbour got: one less is left to it, if any is (gossipsub v1.1, "Spam Protection
     /// Measures"). A message that is not held stays so.
     ///
     /// # Errors
-    /// `AllocError` where there was no memory; the cache is then as it was.
+    /// `AllocError` if memory runs out. The cache is then as it was.
     pub fn count_answer(&mut self, id: &MsgId, peer: PeerNo) -> Result<(), AllocError>
         ensures holds { OnOk result ((other : MsgIdValue) → cached self.new other ≡ cached self.old other) }
         ensures counts { OnOk result ((other : MsgIdValue) (q : PeerNoValue)
@@ -164,11 +164,12 @@ impl MessageCache {
         }
     }
 
-    /// The identifiers to announce on a topic: of the messages whose last put was on it, less than `gossip` shifts
-    /// ago, in the order of those puts, the last 5,000 (gossipsub v1.0, "Gossip Emission").
+    /// Returns the identifiers to announce on a topic (gossipsub v1.0, "Gossip Emission"). They are of messages that were
+    /// last put on this topic, less than `gossip` shifts ago. They stand in the order of those puts. If there are more than
+    /// 5,000, only the last 5,000 are returned.
     ///
     /// # Errors
-    /// `AllocError` where there was no memory.
+    /// `AllocError` if memory runs out.
     pub fn gossip_ids(&self, topic: &Topic) -> Result<Seq<MsgId>, AllocError>
         ensures { IfOk result (λ ids. ids ≡ announced self.now topic.now) }
     {
@@ -176,16 +177,16 @@ impl MessageCache {
         Ok(Seq::from(ids))
     }
 
-    /// Whether `gossip_ids` has any identifier of a topic. It takes no memory, and looks no further than to the first
-    /// one that it finds.
+    /// Says whether `gossip_ids` returns any identifier for a topic. It takes no memory, and stops at the first one that it
+    /// finds.
     pub fn has_gossip(&self, topic: &Topic) -> bool
         ensures { result ≡ not (length (announced self.now topic.now) == 0) }
     {
         announces_any(self.windows.as_slice(), self.gossip, topic)
     }
 
-    /// Shifts the windows, as each heartbeat does: the puts of the oldest window are lost (gossipsub v1.0, "Message
-    /// Cache"). It takes no memory.
+    /// Shifts the windows, as each heartbeat does. The puts of the oldest window are lost (gossipsub v1.0, "Message Cache").
+    /// It takes no memory.
     pub fn shift(&mut self)
         ensures ages { (other : MsgIdValue) → cached self.new other ≡ aged self.old.len (cached self.old other) }
         ensures keeps { (other : MsgIdValue) (q : PeerNoValue)

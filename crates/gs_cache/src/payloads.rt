@@ -8,10 +8,10 @@ use std::alloc::{AllocError, Global};
 use std::hash::{FoldHasher, Hasher};
 use std::marker::Model;
 
-/// How many payloads are held at most.
+/// The most payloads that are held.
 const SLOTS: usize = 1_024;
 
-/// From how many bytes on a message takes over a payload that is known. To look for a shorter one costs more than its
+/// The least length, in bytes, of a known payload that a message takes over. To look for a shorter one costs more than its
 /// memory is worth.
 const SHARED_FROM: usize = 256;
 
@@ -26,9 +26,9 @@ pub struct Known {
 /// The latest payloads with their identifiers (libp2p pubsub, "Message Identification"). A payload that comes again is
 /// found by comparing its bytes, which costs far less than its SHA-256.
 ///
-/// Each payload lies in the slot that a hash of its bytes chooses, until another one takes that. So at most 1,024 are
-/// held, each with the whole body that it is a slice of. A message with a long one of these takes it over, so that a
-/// body goes whose messages were all known before.
+/// Each payload lies in the slot that a hash of its bytes chooses, until another one takes that slot. So at most 1,024 are
+/// held, each with the whole body that it is a slice of. A message with a long payload that is held takes it over. So a body
+/// is freed if all its messages were known before.
 #[derive(Drop)]
 pub struct Payloads {
     slots: Vec<Option<Known>>,
@@ -46,14 +46,14 @@ impl Model for Payloads {
 }
 
 impl Payloads {
-    /// No payload is known. It takes no memory.
+    /// Returns a store in which no payload is known. It takes no memory.
     pub fn new(alloc: Global) -> Payloads {
         Payloads {
             slots: Vec::new(alloc),
         }
     }
 
-    /// The identifier of a payload, which is known from now on with its topic, where there is memory for that.
+    /// Returns the identifier of a payload. If there is memory for it, the payload is known from now on, with its topic.
     #[inline(always)]
     pub fn identifier(&mut self, payload: &Bytes, topic: &Topic) -> MsgId
         ensures { result ≡ message_id payload.now }
@@ -67,8 +67,8 @@ impl Payloads {
         }
     }
 
-    /// Has messages take over payloads of 256 bytes and more that are known, with the topic of each where that is theirs.
-    /// Each message stays what it is. It takes no memory.
+    /// Makes messages share the memory of known payloads of 256 bytes or more, and of the topics of these if they are the
+    /// same. The value of each message stays the same. It takes no memory.
     pub fn share(&self, messages: &mut [Message])
         ensures { messages.new ≡ messages.old }
     {
@@ -77,7 +77,7 @@ impl Payloads {
         }
     }
 
-    /// Has a message take over its payload and its topic, where they are known.
+    /// Makes a message share the memory of its payload and its topic, if they are known.
     fn share_one(&self, message: &mut Message)
         ensures { message.new ≡ message.old }
     {
@@ -93,7 +93,7 @@ impl Payloads {
     }
 }
 
-/// Has bytes lie where others do that are the same.
+/// Makes bytes share the memory of others that are the same.
 fn take_over(bytes: &mut Bytes, known: &Bytes)
     ensures { bytes.new ≡ bytes.old }
 {
@@ -116,15 +116,15 @@ fn set_up(slots: &mut Vec<Option<Known>>)
     }
 }
 
-/// The slot of a payload, by a hash that anybody can compute: who sends payloads that share a slot has each of them
-/// hashed by SHA-256, as it would be without slots, and gains no more.
+/// Returns the slot of a payload, by a hash that anybody can compute. If a peer sends payloads that share a slot, each of
+/// them is hashed by SHA-256, as it would be without slots. The peer gains no more.
 fn slot_of(payload: &[u8]) -> usize {
     let mut hasher = FoldHasher::default();
     hasher.write(payload);
     hasher.finish() as usize % SLOTS
 }
 
-/// The identifier of a payload, which lies in its slot from now on with its topic, where there is memory for that.
+/// Returns the identifier of a payload. If there is memory for it, the payload lies in its slot from now on, with its topic.
 fn identifier_by(slot: &mut Option<Known>, payload: &Bytes, topic: &Topic) -> MsgId
     requires { IsRight slot.old }
     ensures identifies { result ≡ message_id payload.now }

@@ -14,15 +14,15 @@ pub use sighting::Sighting;
 use std::alloc::{AllocError, Global};
 use std::marker::Model;
 
-/// The messages that were seen less than a time ago, with their verdicts, and which neighbours were noted
-/// since for each (gossipsub v1.0, "Message Cache", the seen cache; v1.1, Peer Scoring, P3).
+/// The messages that were seen less than a given time ago, with their verdicts and the neighbours that were noted for each
+/// since (gossipsub v1.0, "Message Cache", the seen cache; v1.1, Peer Scoring, P3).
 ///
-/// A message counts for less than the time after its last mark. Look-ups may be asked about any moment, and
-/// are promised from the last mark's moment on; what no longer counts then may have been forgotten.
+/// A message counts until the given time has passed since its last mark. A look-up may ask about any moment, but its answer
+/// is promised only from the last mark's moment on. What no longer counts at that moment may have been forgotten.
 ///
-/// Sightings lie in two buckets by time. The newer one takes marks for the time, and then becomes the
-/// older one. A bucket is dropped whole, once its last mark is the time ago or more. So at most the messages
-/// of twice the time are held, however long a run is.
+/// Sightings lie in two buckets by time. The newer one takes marks for the given time, and then becomes the older one. A
+/// bucket is dropped whole when its last mark is the given time ago or more. So the cache holds at most the messages of
+/// twice the given time, however long a run is.
 #[derive(Drop)]
 pub struct SeenCache {
     alloc: Global,
@@ -48,7 +48,7 @@ impl Model for SeenCache {
 }
 
 impl SeenCache {
-    /// No message was seen. A sighting will count for less than `ttl` milliseconds. It takes no memory.
+    /// Returns a cache without sightings. A sighting will count for less than `ttl` milliseconds. It takes no memory.
     pub fn new(alloc: Global, ttl: Millis) -> SeenCache
         ensures { result ≡ record { ttl = ttl.0; moment = 0; sightings = [] } }
     {
@@ -60,7 +60,7 @@ impl SeenCache {
         }
     }
 
-    /// The verdict on a message that was marked as seen less than the time ago.
+    /// Returns the verdict on a message, if it was marked as seen less than the cache's time ago.
     pub fn seen(&self, id: &MsgId, now: Millis) -> Option<Verdict>
         ensures { result ≡ verdict_in (what_counts self.now id.now now.0) }
     {
@@ -68,9 +68,9 @@ impl SeenCache {
         Some(sighting.verdict)
     }
 
-    /// Whether a message was marked as seen less than the time ago and at most `window` milliseconds ago, and
-    /// the neighbour was not noted for it since: whether the neighbour's delivery comes soon after the first
-    /// one, and is its first (gossipsub v1.1, Peer Scoring, P3).
+    /// Says whether a neighbour's delivery of a message comes soon after the first one, and is its first (gossipsub v1.1,
+    /// Peer Scoring, P3). The message must have been marked as seen less than the cache's time ago, and at most `window`
+    /// milliseconds ago. The neighbour must not have been noted for it since.
     pub fn is_near(&self, id: &MsgId, peer: PeerNo, now: Millis, window: Millis) -> bool
         ensures { result ≡ is_near_in peer now.0 window.0 (what_counts self.now id.now now.0) }
     {
@@ -80,8 +80,8 @@ impl SeenCache {
         }
     }
 
-    /// How many sightings are held, for who watches the memory: those of messages that were marked at most twice
-    /// the time before the last mark, where one that was marked again may count twice.
+    /// Returns how many sightings are held, so that a caller can watch the memory. They are of messages that were marked at
+    /// most twice the cache's time before the last mark. A message that was marked again may count twice.
     pub fn held(&self) -> usize
         ensures counts { result ≡ length self.now.sightings }
         ensures recent { (id : MsgIdValue)
@@ -90,11 +90,11 @@ impl SeenCache {
         self.newer.sightings.len() + self.older.sightings.len()
     }
 
-    /// Marks a message as seen at a moment, which no mark before it was later than. An earlier mark of the
-    /// message counts no more, and no neighbour is noted for it yet.
+    /// Marks a message as seen at a moment, which is no earlier than that of the last mark. An earlier mark of the message
+    /// no longer counts, and no neighbour is noted for it yet.
     ///
     /// # Errors
-    /// `AllocError` where there was no memory; the cache is then as it was.
+    /// `AllocError` if memory runs out. The cache is then as it was.
     pub fn mark(&mut self, id: MsgId, now: Millis, verdict: Verdict) -> Result<(), AllocError>
         requires no_earlier { self.old.moment ≤ now.0 }
         ensures marks { OnOk result (ChangesBy (sighted id now verdict) now.0 self.old self.new) }
@@ -113,11 +113,11 @@ impl SeenCache {
         Ok(())
     }
 
-    /// Notes a neighbour for a message since its last mark, which stays as it is. A message that was not marked
-    /// stays so.
+    /// Notes a neighbour for a message since its last mark. The mark stays as it is, and a message that was not marked stays
+    /// unmarked.
     ///
     /// # Errors
-    /// `AllocError` where there was no memory; the cache is then as it was.
+    /// `AllocError` if memory runs out. The cache is then as it was.
     pub fn note(&mut self, id: &MsgId, peer: PeerNo) -> Result<(), AllocError>
         ensures notes { OnOk result (ChangesBy (noted id.now peer) self.old.moment self.old self.new) }
         ensures keeps_moment { OnOk result (self.new.moment ≡ self.old.moment) }
@@ -131,8 +131,8 @@ impl SeenCache {
         Ok(())
     }
 
-    /// The last sighting of a message, where it was marked as seen less than the time ago. It says in one look-up what
-    /// `seen` and `is_near` say.
+    /// Returns the last sighting of a message, if it was marked as seen less than the cache's time ago. One look-up then
+    /// says what `seen` and `is_near` say.
     pub fn counting(&self, id: &MsgId, now: Millis) -> Option<&Sighting>
         ensures { option_copied result ≡ what_counts self.now id.now now.0 }
     {

@@ -5,14 +5,14 @@ use Rattle.hex.specs.Hex.{encode_lower}
 use Rattle.gs_scenario.specs.declared.fault.ScenarioFault.{ScenarioFault}
 use Rattle.gs_scenario.specs.Refusal.{number_of, place_of, spaced}
 
--- the byte of a control character, which could end a line
+-- says whether a byte is a control character, which could end a line
 abbrev pub is_control : ℕ → Bool
 is_control byte = nat_lt byte 32 || byte == 127
 
 abbrev pub is_plain : ℕ → Bool
 is_plain byte = not (is_control byte)
 
--- a byte as it is shown: a control character's in hexadecimal digits, as `\x0a`
+-- a byte as it is shown: a control character is shown in hexadecimal digits, such as `\x0a`
 abbrev pub shown_byte : ℕ → List ℕ
 shown_byte byte = if is_control byte then codes "\\x" ++ encode_lower (byte ∷ []) else byte ∷ []
 

@@ -1,4 +1,4 @@
--- How a run of the program ends, and what it has then written.
+-- How a run of the program ends, and what it has written by then.
 use Rattle.std.specs.Prelude.{◌≡◌, ◌≢◌, ℕ, List, ◌++◌, codes, Option, IfSome}
 use Rattle.std.specs.Io.KnownBytes.{Appends, Keeps}
 use Rattle.gs_plan.specs.declared.plan.Plan.{Plan}
@@ -15,30 +15,30 @@ use Rattle.gs_check.specs.Summary.{summary}
 
 -- ---- answers
 
--- the refusal's number and place in a line of their own, and then some words
+-- the refusal's number and place on a line of their own, and then some words
 pub record IsRefusalText (fault : ScenarioFault) (answer : List ℕ) : Type 0 where
   pub words : List ℕ
   pub text : answer ≡ (first_line fault ++ codes "\n") ++ words
 
--- what is said where there is no memory to find out, or to say it
+-- the answer when out of memory for any other
 abbrev pub no_memory_answer : List ℕ
 no_memory_answer =
     codes "32\nthere is not enough memory to read the scenario, or to say what is wrong with it\n"
 
--- it says `ok` and how much the plan has of each thing that the whole input describes
+-- the answer is the summary of the plan that the whole input describes
 pub record Accepts (input : Option (List ℕ)) (answer : List ℕ) : Type 0 where
   pub plan : Plan
   pub scenario : IsScenario input plan
   pub text : answer ≡ summary plan
 
--- it says the number and the place of the input's refusal, which is not out of memory
+-- the answer is the number and the place of the input's refusal, which is not out of memory
 pub record Refuses (input : Option (List ℕ)) (answer : List ℕ) : Type 0 where
   pub fault : ScenarioFault
   pub refused : IfSome input (λ bytes. IsRefusal bytes fault)
   pub judged : number_of fault ≢ 32
   pub text : IsRefusalText fault answer
 
--- what an answer with a verdict says of an input
+-- what an answer with this verdict says about an input
 abbrev pub Answers : Verdict → Option (List ℕ) → List ℕ → Type 0
 Answers verdicts.Accepted input answer = Accepts input answer
 Answers verdicts.Refused input answer = Refuses input answer
@@ -46,7 +46,7 @@ Answers verdicts.NoMemory input answer = answer ≡ no_memory_answer
 
 -- ---- ends
 
--- Of each end: what the reader had is `input`, and each writer held the first and then the second.
+-- For each end: the reader had `input` left to read. Each writer held the first text before, and the second after.
 
 -- the answer to the input is on the output, and nothing more on errors
 pub record Answered (verdict : Verdict) (input output output' errors errors' : Option (List ℕ)) : Type 0 where
@@ -55,12 +55,12 @@ pub record Answered (verdict : Verdict) (input output output' errors errors' : O
   pub text : Appends output output' answer
   pub silent : Keeps errors errors'
 
--- a read of the input failed, or the reads ran out
+-- a read of the input failed, or the input had not ended after the most reads
 pub record InputFailed (output output' errors errors' : Option (List ℕ)) : Type 0 where
   pub line : AppendsFront errors errors' (codes "input failed\n")
   pub silent : Keeps output output'
 
--- a front of the answer to the input is on the output, which failed then
+-- a front of the answer to the input is on the output, and then the output failed
 pub record OutputFailed (input output output' errors errors' : Option (List ℕ)) : Type 0 where
   pub verdict : Verdict
   pub answer : List ℕ

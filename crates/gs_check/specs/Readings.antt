@@ -1,4 +1,4 @@
--- What comes of the reading of an input, and of an answer. Each way in which these ended has its own end of the program.
+-- What results from the reading of an input, and from an answer. Each of their outcomes has its own end of the program.
 use Rattle.std.specs.Prelude.{◌≡◌, ◌≢◌, ◌<◌, ◌⊎◌, ⊤, ℕ, List, length, Option, Some, IfSome, Result, Ok, Err, Vec}
 use Rattle.std.specs.Global.{Global}
 use Rattle.gs_scenario.specs.declared.fault.ScenarioFault.{ScenarioFault}
@@ -15,7 +15,7 @@ use Rattle.gs_check.specs.declared.program.ExitStatus.{ExitStatus}
 use Rattle.gs_check.specs.declared.program.ExitStatus.TheVariants as ends
 use Rattle.gs_check.specs.Program.{Answers, IsRefusalText}
 
--- the reading is one of this input: what was read is all of it, and it is called too long only where it is
+-- it is a reading of this input: it has read all of it, or says that it is too long only where it is
 abbrev pub IsReading : Option (List ℕ) → Result (Vec ℕ Global) ReadFault → Type 0
 IsReading input (Ok bytes) = IfSome input (λ given. bytes.items ≡ given)
 IsReading input (Err reads.Failed) = ⊤
@@ -24,26 +24,26 @@ IsReading input (Err reads.NoMemory) = ⊤
 
 -- ---- answers
 
--- it is refused so, and not for memory; or there was no memory for the words
+-- the answer is this refusal, which is not out of memory; or it was out of memory for the words
 abbrev pub RefusesAs : ScenarioFault → Result Answer NoAnswer → Type 0
 RefusesAs fault (Ok answer) =
     (answer.verdict ≡ verdicts.Refused) × (number_of fault ≢ 32) × IsRefusalText fault answer.text.items
 RefusesAs fault (Err why) = why ≡ causes.NoMemory
 
--- what is answered to an input that was not read to its end
+-- the answer to an input that was not read to its end
 abbrev pub AnswersUnread : ReadFault → Result Answer NoAnswer → Type 0
 AnswersUnread reads.Failed made = made ≡ Err causes.InputFailed
 AnswersUnread reads.TooLong made = RefusesAs input_too_long made
 AnswersUnread reads.NoMemory made = made ≡ Err causes.NoMemory
 
--- what is answered to the bytes of a whole input: a verdict, or that there was no memory
+-- the answer to the bytes of a whole input: a verdict, or out of memory
 abbrev pub AnswersText : List ℕ → Result Answer NoAnswer → Type 0
 AnswersText bytes (Ok answer) = (answer.verdict ≢ verdicts.NoMemory) × Answers answer.verdict (Some bytes) answer.text.items
 AnswersText bytes (Err why) = why ≡ causes.NoMemory
 
 -- ---- ends
 
--- the program ends by what was answered, or by an output that failed
+-- the program ends as the answer says, or because the output failed
 abbrev pub EndsFor : Result Answer NoAnswer → ExitStatus → Type 0
 EndsFor (Ok answer) status = (status ≡ ends.Answered answer.verdict) ⊎ (status ≡ ends.OutputFailed)
 EndsFor (Err causes.InputFailed) status = status ≡ ends.InputFailed

@@ -1,4 +1,4 @@
--- What is said of a scenario that is fine: how much its plan has of each thing.
+-- What the program says about a scenario that is fine: how many of each thing its plan has.
 use Rattle.std.specs.Prelude.{ℕ, ◌+◌, ◌*◌, ◌/◌, ◌%◌, ◌^◌, ◌-◌, ◌==◌, ◌++◌, min, List, codes, decimal, length, if◌then◌else◌}
 use Rattle.gs_plan.specs.declared.plan.Plan.{Plan}
 

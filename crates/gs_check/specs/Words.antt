@@ -1,4 +1,4 @@
--- What is said of a key that is not known.
+-- What the program says about a key that is not known.
 use Rattle.std.specs.Prelude.{◌≡◌, ℕ, ◌==◌, ◌++◌, Bool, nat_lt, List, codes, length, Option, Some, None, if◌then◌else◌}
 use Rattle.std.specs.List.{after_first, position_or_len}
 use Rattle.gs_scenario.specs.declared.scenario.tables.TableKind.{TableKind}
@@ -6,7 +6,7 @@ use Rattle.gs_scenario.specs.declared.scenario.tables.TableKind.TheVariants as k
 use Rattle.gs_scenario.specs.PlanOf.{known_keys}
 use Rattle.gs_check.specs.Near.{IsNearestOf}
 
--- a place that stands as it is, between backquotes
+-- a place between backquotes, unchanged
 abbrev pub plain_place : List ℕ → List ℕ
 plain_place place = codes "`" ++ place ++ codes "`"
 
@@ -14,11 +14,11 @@ plain_place place = codes "`" ++ place ++ codes "`"
 abbrev pub is_point : ℕ → Bool
 is_point byte = byte == 46
 
--- what stands after the first point of a place, and the whole place where it has none
+-- what follows the first point of a place, and the whole place where it has none
 abbrev pub key_of : List ℕ → List ℕ
 key_of place = if nat_lt (position_or_len is_point place) (length place) then after_first is_point place else place
 
--- the key that a place in a table of a kind names: a key of the top table may have points
+-- the key that a place names in a table of this kind; a key of the top table may have points
 abbrev pub key_in : TableKind → List ℕ → List ℕ
 key_in kinds.Top place = place
 key_in kinds.Params place = key_of place
@@ -56,7 +56,7 @@ is_no_key place = plain_place place ++ codes " is no key of "
 abbrev pub unknown_words : List ℕ → TableKind → Option (List ℕ) → List ℕ
 unknown_words place kind near = (is_no_key place ++ table_words kind) ++ suggestion near
 
--- the text says that of a place, with the nearest of the known keys
+-- the text says that about a place, with the nearest of the known keys
 pub record SaysUnknown (place : List ℕ) (kind : TableKind) (text : List ℕ) : Type 0 where
   pub near : Option (List ℕ)
   pub is_nearest : IsNearestOf (key_in kind place) (known_keys kind) near

@@ -11,41 +11,41 @@ use gs_scenario::ScenarioFault;
 use gs_streams::{ReadFault, input_too_long, plan_from};
 use std::alloc::{AllocError, Global};
 
-/// What an answer says of a scenario.
+/// What an answer says about a scenario.
 #[derive(Clone, Copy, Debug, PartialEq, Eq)]
 pub enum Verdict {
     /// The input describes a plan.
     Accepted,
     /// The input is refused.
     Refused,
-    /// Nothing: there was no memory to find out, or to say it.
+    /// None: the program was out of memory for the plan or for the answer's text.
     NoMemory,
 }
 
-/// What is said of an input.
+/// What the program says about an input.
 #[derive(Debug, Drop)]
 pub struct Answer {
     pub verdict: Verdict,
     pub text: Vec<u8>,
 }
 
-/// What is said where there is no memory to say more.
+/// The answer when out of memory for any other.
 pub const NO_MEMORY_ANSWER: &str =
     "32\nthere is not enough memory to read the scenario, or to say what is wrong with it\n";
 
-/// Why there is no answer that was made for the input.
+/// Why no answer was made for the input.
 #[derive(Clone, Copy, Debug, PartialEq, Eq)]
 pub enum NoAnswer {
-    /// A read of the input failed, or the reads ran out.
+    /// A read of the input failed, or it was read `MOST_READS` times and had not ended.
     InputFailed,
-    /// There was no memory for the plan or for the answer.
+    /// Out of memory for the plan or for the answer.
     NoMemory,
 }
 
-/// The answer to what was read of an input.
+/// Returns the answer to what was read of an input.
 ///
 /// # Errors
-/// `InputFailed` where a read failed or the reads ran out, and `NoMemory`.
+/// `InputFailed` if a read failed, or if the input had not ended after `MOST_READS` reads. `NoMemory` when out of memory.
 pub fn answer_after(alloc: Global, reading: Result<Vec<u8>, ReadFault>) -> Result<Answer, NoAnswer>
     requires short { IfOk reading (λ bytes. length bytes.items ≤ longest_input) }
     ensures read { IfOk reading (λ bytes. AnswersText bytes.items result) }
@@ -57,7 +57,7 @@ pub fn answer_after(alloc: Global, reading: Result<Vec<u8>, ReadFault>) -> Resul
     }
 }
 
-/// The answer to an input that was not read to its end.
+/// Returns the answer to an input that was not read to its end.
 fn answer_unread(alloc: Global, fault: ReadFault) -> Result<Answer, NoAnswer>
     ensures { AnswersUnread fault result }
 {
@@ -68,7 +68,7 @@ fn answer_unread(alloc: Global, fault: ReadFault) -> Result<Answer, NoAnswer>
     }
 }
 
-/// The answer to the bytes of a whole input.
+/// Returns the answer to the bytes of a whole input.
 fn answer_of(alloc: Global, bytes: &[u8]) -> Result<Answer, NoAnswer>
     requires { length bytes.now ≤ longest_input }
     ensures { AnswersText bytes.now result }
@@ -79,8 +79,7 @@ fn answer_of(alloc: Global, bytes: &[u8]) -> Result<Answer, NoAnswer>
     }
 }
 
-/// The answer to a scenario that is refused. The words are made from the bytes where they are no
-/// TOML.
+/// Returns the answer to a scenario that is refused. Where the bytes are no TOML, the words are made from them.
 fn refusal_of(alloc: Global, bytes: &[u8], fault: &ScenarioFault) -> Result<Answer, NoAnswer>
     ensures refuses { RefusesAs fault.now result }
     ensures memory { fault.now ≡ NoMemory → result ≡ Err NoAnswer.NoMemory }
@@ -91,7 +90,7 @@ fn refusal_of(alloc: Global, bytes: &[u8], fault: &ScenarioFault) -> Result<Answ
     answered(Verdict::Refused, refusal_text(alloc, bytes, fault))
 }
 
-/// The answer with a verdict and its text, if there was memory for that.
+/// Returns the answer with a verdict and its text, unless it was out of memory for the text.
 fn answered(verdict: Verdict, made: Result<Vec<u8>, AllocError>) -> Result<Answer, NoAnswer>
     ensures text { IfOk made (λ text. result ≡ Ok (record { verdict = verdict; text = text })) }
     ensures none { IfErr made (λ _. result ≡ Err NoAnswer.NoMemory) }
@@ -102,7 +101,7 @@ fn answered(verdict: Verdict, made: Result<Vec<u8>, AllocError>) -> Result<Answe
     }
 }
 
-/// The text of a refusal: its first line, and then its reason in words.
+/// Returns the text of a refusal: its first line, and then its reason in words.
 fn refusal_text(alloc: Global, bytes: &[u8], fault: &ScenarioFault) -> Result<Vec<u8>, AllocError>
     ensures { IfOk result (λ text. IsRefusalText fault.now text.items) }
 {
@@ -112,13 +111,13 @@ fn refusal_text(alloc: Global, bytes: &[u8], fault: &ScenarioFault) -> Result<Ve
     Ok(text)
 }
 
-/// No input that describes a plan is refused.
+/// No input is both accepted and refused.
 pub fn no_input_is_accepted_and_refused()
     ensures { (bytes one other : List ℕ)
         → Answers Verdict.Accepted (Some bytes) one → Answers Verdict.Refused (Some bytes) other → ⊥ }
 {}
 
-/// What is said without memory is what the definitions say.
+/// The answer when out of memory is the text that the definitions give.
 pub fn answer_without_memory()
     ensures { NO_MEMORY_ANSWER.now ≡ no_memory_answer }
 {}

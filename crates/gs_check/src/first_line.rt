@@ -6,8 +6,8 @@ ghost use Rattle.gs_check.specs.FirstLine.{first_line, is_control, is_plain, sho
 use gs_scenario::ScenarioFault;
 use std::alloc::{AllocError, Global};
 
-/// The number of a refusal, and its place where it has one. The bytes of control characters are
-/// shown as `\x0a`; all others stand as in the scenario.
+/// Returns the first line of a refusal: its number, and its place where it has one. The byte of a control character is shown
+/// in hexadecimal digits, such as `\x0a`. All other bytes are those of the scenario.
 pub fn first_line(alloc: Global, fault: &ScenarioFault) -> Result<Vec<u8>, AllocError>
     ensures { IfOk result (λ line. line.items ≡ first_line fault.now ++ codes "\n") }
 {
@@ -43,14 +43,14 @@ fn push_byte(alloc: Global, line: &mut Vec<u8>, byte: u8) -> Result<(), AllocErr
     }
 }
 
-/// Whether a byte is a control character's.
+/// Says whether a byte is a control character.
 fn is_control(byte: u8) -> bool
     ensures { result ≡ is_control byte }
 {
     byte < 32 || byte == 127
 }
 
-/// A place without control characters is shown as it stands.
+/// A place without control characters is shown unchanged.
 pub fn plain_places_are_shown_as_they_stand()
     ensures { (text : List ℕ) → list_all is_plain text ≡ true → shown text ≡ text }
 {}

@@ -1,4 +1,4 @@
-//! What is said of a scenario: in words what is wrong with it, or that it is fine and what it plans.
+//! What the program says about a scenario: what is wrong with it, in words, or that it is fine and what it plans.
 #![tactic(auto)]
 
 mod answer;

@@ -35,9 +35,8 @@ impl From<ExitStatus> for ExitCode {
     }
 }
 
-/// Reads a scenario from the input, and writes what is to be said of it to the output. Where the
-/// input or the output fails, that is a line on `errors`; where that can't be written, the status
-/// stays the same.
+/// Reads a scenario from the input, and writes the answer about it to the output. Where the input or the output fails, it
+/// writes a line about that to `errors`. Where that line can't be written, the status stays the same.
 pub fn run<R, W, E>(alloc: Global, input: &mut R, output: &mut W, errors: &mut E) -> ExitStatus
 where
     R: Read,
@@ -50,7 +49,7 @@ where
     finish(alloc, reading, output, errors)
 }
 
-/// Answers what was read, or says why there is no answer.
+/// Writes the answer to what was read, or says why there is no answer.
 fn finish<W, E>(
     alloc: Global,
     reading: Result<Vec<u8>, ReadFault>,

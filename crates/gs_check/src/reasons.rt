@@ -12,7 +12,7 @@ use crate::reasons::values::Mismatch;
 use gs_scenario::ScenarioFault;
 use std::alloc::{AllocError, Global};
 
-/// The reason of a refusal, in one or two lines. What the refusal doesn't keep is found from the bytes.
+/// Returns the reason of a refusal, in one or two lines. It finds in the bytes what the refusal doesn't keep.
 pub fn reason(alloc: Global, bytes: &[u8], fault: &ScenarioFault) -> Result<String, AllocError> {
     match fault {
         ScenarioFault::Toml => toml_reason(alloc, bytes),
@@ -35,7 +35,7 @@ pub fn reason(alloc: Global, bytes: &[u8], fault: &ScenarioFault) -> Result<Stri
     }
 }
 
-/// Where bytes are no TOML, and why, as the reader of TOML says it.
+/// Says where bytes are no TOML, and why, in the words of the TOML reader.
 fn toml_reason(alloc: Global, bytes: &[u8]) -> Result<String, AllocError> {
     match toml::table_from_slice(alloc, bytes) {
         Ok(_) => String::from_str(alloc, "the scenario is no TOML\n"),

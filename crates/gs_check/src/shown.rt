@@ -1,4 +1,4 @@
-//! What comes from a scenario, as it is shown in a sentence: it stays in its line whatever it holds.
+//! Text from a scenario, as a sentence shows it. It stays on its line, whatever characters it has.
 ghost use Rattle.std.specs.Prelude.{◌≡◌, true};
 ghost use Rattle.std.specs.Fmt.{WritesOnOk};
 ghost use Rattle.std.specs.List.{list_all};
@@ -9,11 +9,11 @@ use std::fmt;
 /// How many characters of a text are shown. What stands after them is left out.
 const MOST_SHOWN: usize = 60;
 
-/// A text between double quotes, as `"6"`.
+/// A text between double quotes, such as `"6"`.
 #[derive(Clone, Copy)]
 pub struct Quoted<'a>(pub &'a str);
 
-/// A place or a key between backquotes, as `` `do[2].hex` ``.
+/// A place or a key between backquotes, such as `` `do[2].hex` ``.
 #[derive(Clone, Copy)]
 pub struct Ticked<'a>(pub &'a str);
 
@@ -37,7 +37,7 @@ impl<'a> fmt::Display for Ticked<'a> {
     }
 }
 
-/// Writes a text, of a long one its front and `...`.
+/// Writes a text. Of a long text it writes the front, and then `...`.
 fn write_front<W: fmt::Write>(f: &mut fmt::Formatter<W>, text: &str) -> fmt::Result
     ensures { is_plain_text text.now ≡ true → WritesOnOk W.write_str_gives f.old result text.now f.new }
 {
@@ -53,7 +53,8 @@ fn write_front<W: fmt::Write>(f: &mut fmt::Formatter<W>, text: &str) -> fmt::Res
     Ok(())
 }
 
-/// Writes a character, with a backslash before quotes, and as its code where it doesn't print.
+/// Writes a character. A double quote, a backquote and a backslash get a backslash before them. One that doesn't print is
+/// written as its code.
 fn write_escaped<W: fmt::Write>(f: &mut fmt::Formatter<W>, character: char) -> fmt::Result {
     match character {
         '\'' => f.write_char('\''),
@@ -62,7 +63,7 @@ fn write_escaped<W: fmt::Write>(f: &mut fmt::Formatter<W>, character: char) -> f
     }
 }
 
-/// Whether a text is shown as it stands: it is short, and nothing in it needs a backslash or doesn't print.
+/// Says whether a text is shown unchanged: it is short, and each of its characters prints and needs no backslash.
 fn is_plain_text(text: &str) -> bool
     ensures { result ≡ is_plain_text text.now }
 {
@@ -75,7 +76,7 @@ fn are_plain(bytes: &[u8]) -> bool
     bytes.iter().all(|&byte| is_plain(byte))
 }
 
-/// Whether a byte is that of a character of ASCII that prints, and no quote, backslash or backquote.
+/// Says whether a byte is a printing character of ASCII, and no quote, backslash or backquote.
 fn is_plain(byte: u8) -> bool
     ensures { result ≡ is_plain byte }
 {

@@ -1,4 +1,4 @@
-//! What is said of a scenario that is fine.
+//! What the program says about a scenario that is fine.
 ghost use Rattle.std.specs.Prelude.{◌≡◌, IfOk, OnOk, Some, ◌++◌, string_bytes};
 ghost use Rattle.gs_plan.specs.Plans.{IsInRange};
 ghost use Rattle.gs_check.specs.Summary.{connections_text, counted, length_text, links_text, peers_text, rounds_text, script_text, seconds, summary, three_digits, time_text, topics_text};
@@ -69,7 +69,7 @@ impl fmt::Display for Thousandths {
     }
 }
 
-/// `ok`, and how much a plan has of each thing: who takes part, what happens, and for how long.
+/// Returns `ok` and a summary of a plan: who takes part, what happens, and for how long.
 pub fn summary(alloc: Global, plan: &Plan) -> Result<Vec<u8>, AllocError>
     requires { IsInRange plan.now }
     ensures { IfOk result (λ text. text.items ≡ summary plan.now) }
@@ -101,7 +101,7 @@ fn connections_text(alloc: Global, plan: &Plan) -> Result<String, AllocError>
     format!(in alloc; "{connections} (")
 }
 
-/// A dial is one connection of two links.
+/// Says how many links a plan has: two for each dial.
 fn links_text(alloc: Global, plan: &Plan) -> Result<String, AllocError>
     ensures { IfOk result (λ text. string_bytes text ≡ links_text plan.now) }
 {
@@ -116,7 +116,7 @@ fn topics_text(alloc: Global, plan: &Plan) -> Result<String, AllocError>
     format!(in alloc; "{topics}\n")
 }
 
-/// The rounds begin with round 0, so there is one more than the number of the last.
+/// Says how many rounds a plan has. They begin with round 0, so there is one more than the number of the last.
 fn rounds_text(alloc: Global, plan: &Plan) -> Result<String, AllocError>
     requires { IsInRange plan.now }
     ensures { IfOk result (λ text. string_bytes text ≡ rounds_text plan.now) }

@@ -1,5 +1,5 @@
-//! Scenarios with what must be said of each, and whole runs. A crate is proved once more with its own tests, so these stand
-//! apart from what they call.
+//! Scenarios with what the program must say about each, and whole runs. A crate with tests of its own is proved a second
+//! time with them, so these tests have a crate of their own.
 #![tactic(auto)]
 
 #[cfg(test)]

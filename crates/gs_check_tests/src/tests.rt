@@ -19,7 +19,7 @@ use std::alloc::{AllocError, Global};
 use std::io::Read;
 use std::process::{Abort, ExitCode};
 
-/// The scenario with another text in the place of the first of these.
+/// Returns the scenario with the second text instead of the first one, at its first place.
 fn changed(alloc: Global, old: &str, new: &str) -> Result<String, AllocError> {
     match SCENARIO.split_once(old) {
         Some((front, back)) => format!(in alloc; "{front}{new}{back}"),
@@ -27,7 +27,7 @@ fn changed(alloc: Global, old: &str, new: &str) -> Result<String, AllocError> {
     }
 }
 
-/// Whether a run on an input ends so and writes that.
+/// Says whether a run on an input ends with this status and writes these texts.
 fn ends<R: Read>(alloc: Global, input: &mut R, status: u8, output: &str, errors: &str) -> bool {
     let mut out = Vec::new(alloc);
     let mut err = Vec::new(alloc);
@@ -37,7 +37,7 @@ fn ends<R: Read>(alloc: Global, input: &mut R, status: u8, output: &str, errors:
         && err.as_slice() == errors.as_bytes()
 }
 
-/// What is said of the bytes of a scenario.
+/// Returns what the program says about the bytes of a scenario.
 fn said(alloc: Global, bytes: &[u8]) -> Vec<u8> {
     let mut out = Vec::new(alloc);
     let mut err = Vec::new(alloc);
@@ -95,8 +95,8 @@ fn parameters_are_refused_with_their_values_and_rules(rt: HostRuntime) -> Result
     answer_all(&rt, &PARAMS)
 }
 
-/// Checks that each of these keys of a table, which stand after a line, is refused with its value and
-/// with what that must be.
+/// Checks that each of these keys of a table is refused with its value and with what that must be. The keys stand after a
+/// line.
 fn refuse_all<T: AllocGlobal + Abort>(
     rt: &T,
     line: &str,
@@ -120,8 +120,8 @@ fn each_parameter_is_refused_by_its_own_name(rt: HostRuntime) -> Result<(), Allo
     refuse_all(&rt, "name = \"news\"\n", "topic[0]", &OF_TOPIC)
 }
 
-/// Checks that a number which no parameter may have is refused at each of these keys of a table, which
-/// stand after a line, with the key's own range.
+/// Checks that a number which no parameter may have is refused at each of these keys of a table. The refusal has the key's
+/// own range. The keys stand after a line.
 fn bound_all<T: AllocGlobal + Abort>(
     rt: &T,
     line: &str,
@@ -164,7 +164,7 @@ fn a_long_input_is_refused_whatever_it_is(rt: HostRuntime) -> Result<(), AllocEr
     Ok(())
 }
 
-/// The scenario with raw bytes in place of its payload, which are written with these digits.
+/// Returns the scenario with a line of raw bytes before its line `LINE`. These digits spell the raw bytes.
 fn raw(alloc: Global, digits: &str) -> Result<String, AllocError> {
     let line = format!(in alloc;
         "what = 'raw'\nat = 2\npeer = 'b'\nto = 'a'\nhex = '{digits}'\n[[do]]\n{LINE}"
@@ -241,7 +241,7 @@ fn an_output_that_fails_has_a_front_of_the_answer(rt: HostRuntime) {
     }
 }
 
-/// The laws take nothing and give nothing: that they can be called is all there is to test.
+/// The laws take nothing and give nothing, so the test only calls them.
 #[test]
 fn laws_can_be_called(_rt: HostRuntime) {
     no_input_is_accepted_and_refused();

@@ -1,4 +1,4 @@
--- What happens where something is delivered to a peer's own user, where a mesh changes, and where a line is refused.
+-- What happens when something is delivered to a peer's own user, when a mesh changes, and when a line is refused.
 use Rattle.std.specs.Prelude.{ℕ, List, [], ◌∷◌, Option, None, Some}
 use Rattle.gs_base.specs.declared.names.PeerNo.{PeerNo}
 use Rattle.gs_base.specs.declared.names.Topic.{Topic}
@@ -18,8 +18,8 @@ delivery_happenings s x = on_topic s x.0 kinds.Delivered 1 ∷ []
 
 -- ---- meshes
 
--- What a neighbour that comes into a mesh at an event counts as besides, by what brought it in. Each event is named here,
--- so that a new one is decided on.
+-- What else a neighbour that comes into a mesh at an event counts as, by what brought it in. Each event is named here, so
+-- that a new one must be decided on.
 abbrev pub graft_cause : Event → Option Kind
 graft_cause (Part q part) = Some kinds.GraftedByNeighbour
 graft_cause (Step step) = Some kinds.GraftedByHeartbeat
@@ -32,8 +32,8 @@ graft_cause Decay = None
 graft_cause (RoundEnd r) = None
 graft_cause Shut = None
 
--- What one that leaves a mesh at an event counts as besides, by what took it out. Each event is named here, so that a new
--- one is decided on.
+-- What else a neighbour that leaves a mesh at an event counts as, by what took it out. Each event is named here, so that a
+-- new one must be decided on.
 abbrev pub prune_cause : Event → Option Kind
 prune_cause (Part q part) = Some kinds.PrunedByNeighbour
 prune_cause (Step step) = Some kinds.PrunedByHeartbeat
@@ -46,12 +46,12 @@ prune_cause Decay = None
 prune_cause (RoundEnd r) = None
 prune_cause Shut = None
 
--- a change of a mesh counts for its cause too, where it has one that is counted
+-- a change of a mesh counts for its cause too, if the cause is counted
 abbrev pub cause_happenings : Scene → Topic → Option Kind → List Happening
 cause_happenings s t None = []
 cause_happenings s t (Some cause) = on_topic s t cause 1 ∷ []
 
--- Who comes into a mesh at an event, and who leaves one. Each mark is named here, so that a new one is decided on.
+-- Who comes into a mesh at an event, and who leaves one. Each mark is named here, so that a new one must be decided on.
 abbrev pub mark_happenings : Scene → Event → Mark → List Happening
 mark_happenings s event (marks.Grafted q t) =
     on_topic (heard_of s q) t kinds.Grafted 1 ∷ cause_happenings (heard_of s q) t (graft_cause event)

@@ -13,15 +13,15 @@ use Rattle.gs_counts.specs.declared.run.LinkCounts.{LinkCounts}
 use Rattle.gs_counts.specs.Rows.{amount_in, count_at, plus}
 use Rattle.gs_counts.specs.Standing.{goes_over, link_of}
 
--- those over the link from one peer to another, as its row has them
+-- the happenings over the link from one peer to another, as its row has them
 abbrev pub over_link : PeerNo → PeerNo → List Happening → List Happening
 over_link p q hs = filter (λ h. goes_over p q (link_of h)) hs
 
--- the RPCs that came, whatever became of them
+-- the RPCs that came, regardless of what became of them
 abbrev pub rpcs_that_came : List Happening → ℕ
 rpcs_that_came hs = amount_in hs RpcsHeard + amount_in hs RpcsGraylisted + amount_in hs RpcsLate
 
--- no line of a peer's script puts bytes on the link to another as they are
+-- no line of a peer's script puts raw bytes on the link to another peer
 abbrev pub PutsOnlyFrames : Plan → PeerNo → PeerNo → Type 0
 PutsOnlyFrames plan p q = PutsNoBytes q (seat_in plan p).lines
 

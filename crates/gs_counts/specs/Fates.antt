@@ -1,4 +1,4 @@
--- What became of a message that was heard, by what its entry shows and by what the trace before it says.
+-- What became of a message that was heard, according to its entry and to the trace before it.
 use Rattle.std.specs.Prelude.{ℕ, Bool, true, false, not, if◌then◌else◌, List, [], ◌∷◌, Option, Some, None, unwrap_or}
 use Rattle.std.specs.List.{list_any}
 use Rattle.std.specs.Map.{lookup}
@@ -21,13 +21,13 @@ use Rattle.gs_counts.specs.declared.verdicts.Verdicts.{Verdicts}
 
 -- ---- what an entry shows
 
--- one that is found to be ignored is neither accepted nor held against its sender
+-- a message that validation ignores is neither accepted nor held against its sender
 abbrev pub found_so : Verdict → Option Fate
 found_so verdicts.Ignore = Some fates.Ignored
 found_so verdicts.Accept = None
 found_so verdicts.Reject = None
 
--- What a mark of a message's entry shows of what became of it. Each mark is named here, so that a new one is decided on.
+-- What a mark of a message's entry shows about what became of it. Each mark is named here, so that a new one must be decided on.
 abbrev pub shown_by : Mark → Option Fate
 shown_by (marks.First q t id) = Some fates.New
 shown_by (marks.Invalid q t) = Some fates.Rejected
@@ -46,7 +46,7 @@ shown_by (marks.Unfanned q t) = None
 shown_by (marks.Backoff q t end) = None
 shown_by (marks.Published t) = None
 
--- what the first of these marks shows that shows anything
+-- what these marks show: the first one that shows anything counts
 abbrev pub shown : List Mark → Option Fate
 shown [] = None
 shown (mark ∷ later) = elim (shown_by mark) [ None ↦ shown later | Some fate ↦ Some fate ]
@@ -62,7 +62,7 @@ abbrev pub ignored_so : Option Sighting → Bool
 ignored_so None = false
 ignored_so (Some s) = is_ignore s.verdict
 
--- the message of this identifier was found to be ignored when it was seen last
+-- the message of this identifier was ignored when it was last seen
 abbrev pub last_ignored : Entries → MsgId → Bool
 last_ignored L id = ignored_so (last_seen L id)
 
@@ -73,7 +73,7 @@ abbrev pub again : Bool → Fate
 again true = fates.Ignored
 again false = fates.Duplicate
 
--- by whether the peer is subscribed to its topic, and by which identifiers were ignored
+-- what became of a message, by whether the peer is subscribed to its topic, and by which identifiers were ignored
 abbrev pub fate : Bool → (MsgId → Bool) → Message → List Mark → Fate
 fate is_joined was_ignored m marks =
     if not is_joined then fates.OffTopic
@@ -103,24 +103,24 @@ payload_kind fates.OffTopic = kinds.PayloadBytesAgain
 
 -- ---- identifiers that are kept
 
--- the message of this identifier is kept as one that was ignored last
+-- the message of this identifier is kept as ignored when it was last seen
 abbrev pub was_ignored : Verdicts → MsgId → Bool
 was_ignored v id = unwrap_or (lookup (same_id id) v.ignored.entries) false
 
--- what becomes of a message by what is known of the trace before it
+-- what becomes of a message by what is known about the trace before it
 abbrev pub known_fate : Memory → Message → List Mark → Fate
 known_fate memory m marks =
     fate (list_any (same_topic (topic_of m)) memory.meshes.topics.items) (was_ignored memory.verdicts) m marks
 
 -- ---- by the rule
 
--- what becomes of a message that was found to be so lately
+-- what becomes of a message that had this verdict recently
 abbrev pub copy_fate : Verdict → Fate
 copy_fate verdicts.Accept = fates.Duplicate
 copy_fate verdicts.Reject = fates.Rejected
 copy_fate verdicts.Ignore = fates.Ignored
 
--- what becomes of one that was not seen lately, and is found to be so
+-- what becomes of a message that was not seen recently and has this verdict now
 abbrev pub first_fate : Verdict → Fate
 first_fate verdicts.Accept = fates.New
 first_fate verdicts.Reject = fates.Rejected
@@ -130,7 +130,7 @@ abbrev pub fate_by : Option Verdict → Verdict → Fate
 fate_by None verdict = first_fate verdict
 fate_by (Some lately) verdict = copy_fate lately
 
--- what the rule for messages makes of one that comes at a moment
+-- what the rule for messages makes of a message that comes at a moment
 abbrev pub ruled_fate : Peer → Entries → ℕ → Message → Fate
 ruled_fate p L at m =
     if not (joined L (topic_of m)) then fates.OffTopic

@@ -9,11 +9,11 @@ use Rattle.gs_counts.specs.declared.kind.Kind.{Kind}
 
 -- ---- scenes
 
--- at a peer, of no neighbour
+-- at a peer, concerning no neighbour
 abbrev pub of_peer : Millis → PeerNo → Scene
 of_peer at p = record { at = at; peer = p; neighbour = None }
 
--- of a neighbour
+-- concerning a neighbour
 abbrev pub heard_of : Scene → PeerNo → Scene
 heard_of s q = record { at = s.at; peer = s.peer; neighbour = Some q }
 

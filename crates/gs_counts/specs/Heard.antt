@@ -47,8 +47,8 @@ abbrev pub request_happenings : Scene → IWant → List Happening
 request_happenings s request =
     on_none s kinds.IwantHeard 1 ∷ on_none s kinds.IdsAsked (length request.ids) ∷ []
 
--- A part of an RPC, where this says what becomes of a message with these marks. Each kind of parts is named here, so that
--- a new one is decided on.
+-- A part of an RPC. `fate` says what becomes of a message with these marks. Each kind of parts is named here, so that a new
+-- one must be decided on.
 abbrev pub part_happenings : (Message → List Mark → Fate) → Scene → RpcPart → List Mark → List Happening
 part_happenings fate s (Sub sub) marks = on_topic s (topic_or_empty sub.topic) kinds.SubscriptionsHeard 1 ∷ []
 part_happenings fate s (Msg m) marks = message_happenings s m (fate m marks)
@@ -59,18 +59,18 @@ part_happenings fate s (PruneIn prune) marks = on_topic s (topic_or_empty prune.
 
 -- ---- events
 
--- an RPC that came to nothing was not handled
+-- an RPC without effect was not handled
 abbrev pub rpc_happenings : Scene → List Fallen → List Happening
 rpc_happenings s [] = on_none s kinds.RpcsHeard 1 ∷ []
 rpc_happenings s (one ∷ others) = []
 
--- a link is cut for its bytes
+-- a link is cut because of its bytes
 abbrev pub loss_happenings : Scene → Loss → List Happening
 loss_happenings s Gone = []
 loss_happenings s Fault = on_none s kinds.Faults 1 ∷ []
 
--- What an event with these marks is, where this came to nothing at it. Each event is named here, so that a new one is
--- decided on.
+-- What an event with these marks counts as, if this came to nothing at it. Each event is named here, so that a new one must
+-- be decided on.
 abbrev pub event_happenings : (Message → List Mark → Fate) → Scene → List Fallen → Event → List Mark → List Happening
 event_happenings fate s fallen (Heard q rpc) marks = rpc_happenings (heard_of s q) fallen
 event_happenings fate s fallen (Late q rpc) marks = []
@@ -96,7 +96,7 @@ no_answer_kind Ignored = kinds.IdsNotSentScore
 no_answer_kind TooOften = kinds.IdsNotSentTooOften
 no_answer_kind NotKept = kinds.IdsNotSentNotKept
 
--- A promise that was broken stands with the neighbour that broke it, and concerns the peer that waited.
+-- A broken promise counts for the neighbour that broke it, and concerns the peer that waited.
 abbrev pub fallen_happenings : Scene → Fallen → List Happening
 fallen_happenings s (fallen.Graylisted q) = on_none (heard_of s q) kinds.RpcsGraylisted 1 ∷ []
 fallen_happenings s (fallen.Late q) = on_none (heard_of s q) kinds.RpcsLate 1 ∷ []

@@ -3,7 +3,7 @@ use Rattle.std.specs.Prelude.{ℕ, Bool, true, false, nat_eq, List, [], ◌∷�
 use Rattle.gs_counts.specs.declared.kind.Kind.{Kind}
 use Rattle.gs_counts.specs.declared.kind.Kind.TheVariants.{RpcsHeard, New, Duplicates, Ignored, Rejected, Signed, OffTopic, PayloadBytesNew, PayloadBytesAgain, SubscriptionsHeard, IhaveHeard, IdsOffered, IwantHeard, IdsAsked, GraftHeard, PruneHeard, RpcsSent, BytesSent, RawBytesSent, MessageBytesSent, ControlBytesSent, SubscriptionBytesSent, SubscriptionsSent, MessagesPushed, MessagesAnswered, IhaveSent, IdsOfferedSent, IwantSent, IdsAskedSent, GraftSent, PruneSent, RpcsGraylisted, RpcsLate, Faults, GraftRefusedExplicit, GraftRefusedBackoff, GraftRefusedScore, GraftRefusedFull, IdsNotSentScore, IdsNotSentTooOften, IdsNotSentNotKept, PromisesBroken, RefusedLines, Delivered, Grafted, GraftedByNeighbour, GraftedByHeartbeat, Pruned, PrunedByNeighbour, PrunedByHeartbeat, PrunedByLoss}
 
--- all of them, in the order of columns
+-- all kinds, in the order of the columns
 unfoldable pub all_kinds : List Kind
 all_kinds =
     RpcsHeard
@@ -67,7 +67,7 @@ ends_of_messages = New ∷ Duplicates ∷ Ignored ∷ Rejected ∷ Signed ∷ Of
 abbrev pub payloads_of_messages : List Kind
 payloads_of_messages = PayloadBytesNew ∷ PayloadBytesAgain ∷ []
 
--- the place of each among them
+-- the place of a kind among all kinds
 abbrev pub place_of : Kind → ℕ
 place_of RpcsHeard = 0
 place_of New = 1
@@ -124,8 +124,8 @@ place_of PrunedByLoss = 50
 abbrev pub same_kind : Kind → Kind → Bool
 same_kind j k = nat_eq (place_of j) (place_of k)
 
--- Whether the peer is who sent, and the neighbour who heard. Else it is the other way round. A promise is broken by the
--- peer that made it.
+-- Whether the peer is the sender and the neighbour is the one that hears. Otherwise it is the other way round. A promise is
+-- broken by the peer that made it.
 abbrev pub is_of_sender : Kind → Bool
 is_of_sender RpcsHeard = false
 is_of_sender New = false

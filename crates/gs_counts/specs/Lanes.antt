@@ -1,4 +1,4 @@
--- What goes out to a neighbour: frames, each of the RPCs that were gathered for it, and bytes as they are.
+-- What goes out to a neighbour: frames of the RPCs that were gathered for it, and raw bytes.
 use Rattle.std.specs.Prelude.{◌≡◌, ℕ, Bool, true, false, if◌then◌else◌, List, [], ◌∷◌, ◌++◌, filter, length, map, Option, None, option_to_list}
 use Rattle.std.specs.List.{flat_map}
 use Rattle.gs_base.specs.declared.names.PeerNo.{PeerNo}
@@ -31,7 +31,7 @@ frame_happenings s bytes = on_none s kinds.RpcsSent 1 ∷ on_none s kinds.BytesS
 abbrev pub frames_out : Scene → List Rpc → List Happening
 frames_out s vs = flat_map (λ v. frame_happenings s (length (frame v))) vs
 
--- the RPCs that go out, each as one frame, while these are sent after what is gathered: one more does not fit with them
+-- the RPCs that go out as frames while these are sent after what is gathered, because the next one does not fit with them
 abbrev pub let_out : Option Rpc → List Rpc → List Rpc
 let_out held [] = []
 let_out held (v ∷ vs) = (gather codec held v).0 ++ let_out (gather codec held v).1 vs
@@ -45,7 +45,7 @@ held_after held (v ∷ vs) = held_after (gather codec held v).1 vs
 abbrev pub cut_off : Bool → Option Rpc → List Rpc
 cut_off is held = if is then option_to_list held else []
 
--- ---- bytes as they are
+-- ---- raw bytes
 
 abbrev pub raw_out : Scene → Bool → ℕ → List Happening
 raw_out s true count = on_none s kinds.BytesSent count ∷ on_none s kinds.RawBytesSent count ∷ []
@@ -58,7 +58,7 @@ raw_by_act s q (Unsubscribe t) = []
 raw_by_act s q (Publish t payload) = []
 raw_by_act s q (HangUp p) = []
 
--- the bytes that an event puts on the link to a neighbour as they are
+-- the raw bytes that an event puts on the link to a neighbour
 abbrev pub raw_happenings : Scene → PeerNo → Event → List Happening
 raw_happenings s q event = of_act (raw_by_act s q) [] event
 
@@ -67,23 +67,23 @@ raw_happenings s q event = of_act (raw_by_act s q) [] event
 abbrev pub new_lane : PeerNo → Lane
 new_lane q = record { to = q; gathered = None; is_open = true }
 
--- what is sent to a neighbour and fits a frame: what fits none counts for nothing, and no run sends such
+-- an entry with only the sends that fit a frame: others do not count, and no run sends them
 abbrev pub fitting : Entry → Entry
 fitting e = record e { effects = record e.effects { sends = filter (λ x. codec.fits x.1) e.effects.sends } }
 
 abbrev pub fitting_to : PeerNo → List (PeerNo × Rpc) → List Rpc
 fitting_to q sends = sent_to q (filter (λ x. codec.fits x.1) sends)
 
--- after these RPCs were sent
+-- a lane after these RPCs were sent
 abbrev pub lane_sent : Lane → List Rpc → Lane
 lane_sent l vs = record l { gathered = held_after l.gathered vs }
 
--- after a cut, if it is one
+-- a lane after a cut, if this is a cut
 abbrev pub cut_lane : Bool → Lane → Lane
 cut_lane true l = record l { gathered = None }
 cut_lane false l = l
 
--- after its end, if it is one
+-- a lane after its end, if this is the end
 abbrev pub closed_lane : Bool → Lane → Lane
 closed_lane true l = record l { gathered = None; is_open = false }
 closed_lane false l = l
@@ -100,7 +100,7 @@ lane_behind event l = record {
   is_open = up_after l.to event l.is_open;
 }
 
--- what an entry puts out to the neighbour for as long as the link is open: what is sent, and then what its event puts out
+-- what an entry puts out to the neighbour while the link is open: what is sent, and then what its event puts out
 abbrev pub put_out : Scene → Lane → Entry → List Happening
 put_out s l e =
     frames_out s (let_out l.gathered (fitting_to l.to e.effects.sends))
@@ -113,7 +113,7 @@ abbrev pub lane_after : Entry → Lane → Lane
 lane_after e l =
     if l.is_open then lane_behind e.event (lane_sent l (fitting_to l.to e.effects.sends)) else l
 
--- The entry puts out nothing to anybody.
+-- The entry puts out nothing to any neighbour.
 pub record IsSilent (e : Entry) : Type 0 where
   pub sends : e.effects.sends ≡ []
   pub cuts : (q : PeerNo) → is_cut q e.event ≡ false

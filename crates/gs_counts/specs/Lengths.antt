@@ -4,6 +4,6 @@ use Rattle.gs_base.specs.declared.rpc.Rpc.{Rpc}
 use Rattle.gs_wire.specs.Codec.{codec}
 use Rattle.gs_wire.specs.Messages.{body}
 
--- the length of the body of an RPC, where that fits a frame
+-- the length of the body of an RPC, if that fits a frame
 abbrev pub body_length : Rpc → Option ℕ
 body_length rpc = if codec.fits rpc then Some (length (body rpc)) else None

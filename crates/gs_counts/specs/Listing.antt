@@ -42,14 +42,14 @@ all_links dials count row = flat_map (λ n. links_by dials count (peer_no n) (ro
 
 -- ---- what goes over links to a peer
 
--- those of these links that lead to a peer
+-- the links among these that lead to a peer
 abbrev pub links_to : PeerNo → List LinkCounts → List LinkCounts
 links_to p links = filter (λ (link : LinkCounts). same_peer link.to p) links
 
--- a sum with what stands of a kind in these rows, at most the greatest number that is given
+-- a sum with the numbers of a kind in these rows added, at most the greatest number that is given
 abbrev pub with_links : Kind → ℕ → List LinkCounts → ℕ
 with_links kind sum links = fold (λ sum (link : LinkCounts). plus sum (count_at link.counts kind)) sum links
 
--- how often or how much of a kind went over those of these links that lead to a peer
+-- how often a kind went over these links to a peer, or how much of it
 abbrev pub over_links : List LinkCounts → PeerNo → Kind → ℕ
 over_links links p kind = with_links kind 0 (links_to p links)

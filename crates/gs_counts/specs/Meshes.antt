@@ -1,4 +1,4 @@
--- The members of meshes, and the sizes of the smallest and the largest of several.
+-- The members of meshes, and the sizes of the smallest and the largest of several meshes.
 use Rattle.std.specs.Prelude.{ℕ, ℤ, Bool, true, false, not, ◌&&◌, ◌||◌, nat_lt, if◌then◌else◌, List, [], ◌∷◌, length, filter, fold, Option, Some, None}
 use Rattle.std.specs.Int.{int_max, int_min}
 use Rattle.std.specs.Ordering.{nat_cmp}
@@ -13,18 +13,18 @@ use Rattle.gs_counts.specs.declared.span.Span.{Span}
 
 -- ---- the lowest and the highest
 
--- with one more
+-- a span with one more value
 abbrev pub widened : Option Span → ℤ → Option Span
 widened None z = Some (record { lowest = z; highest = z })
 widened (Some span) z = Some (record { lowest = int_min span.lowest z; highest = int_max span.highest z })
 
--- the lowest and the highest of these, where there are any
+-- the lowest and the highest of these, if there are any
 abbrev pub span_of : List ℤ → Option Span
 span_of zs = fold widened None zs
 
 -- ---- members of meshes
 
--- a member at its place among those of its topic, who ascend by number; where it stands there, it stays once
+-- a member in its place among the members of its topic, which ascend by number; a member that is there already stays once
 abbrev pub put_member : Topic → PeerNo → List (Topic × PeerNo) → List (Topic × PeerNo)
 put_member t q [] = (t, q) ∷ []
 put_member t q (x ∷ xs) =
@@ -32,7 +32,7 @@ put_member t q (x ∷ xs) =
     then by_order (nat_cmp x.1.0 q.0) (x ∷ put_member t q xs) (x ∷ xs) ((t, q) ∷ x ∷ xs)
     else x ∷ put_member t q xs
 
--- it comes after another, which is of another topic or has a lower number
+-- it comes after another member, which has another topic or a lower number
 abbrev pub stands_after : Topic → PeerNo → Topic × PeerNo → Bool
 stands_after t q x = not (same_topic x.0 t) || nat_lt x.1.0 q.0
 
@@ -41,11 +41,11 @@ abbrev pub is_place : Topic → PeerNo → List (Topic × PeerNo) → Bool
 is_place t q [] = true
 is_place t q (x ∷ xs) = not (stands_after t q x)
 
--- all of these but a member of a topic's mesh
+-- all of these, except a member of a topic's mesh
 abbrev pub without_member : Topic → PeerNo → List (Topic × PeerNo) → List (Topic × PeerNo)
 without_member t q members = filter (λ x. not (same_topic x.0 t && same_peer q x.1)) members
 
--- What a mark leaves of the members of all meshes. Each mark is named here, so that a new one is decided on.
+-- What a mark leaves of the members of all meshes. Each mark is named here, so that a new one must be decided on.
 abbrev pub members_after : Mark → List (Topic × PeerNo) → List (Topic × PeerNo)
 members_after (marks.Grafted q t) before = put_member t q before
 members_after (marks.Pruned q t) before = without_member t q before

@@ -1,4 +1,4 @@
--- What is known of a peer whose trace is read.
+-- What is known about a peer whose trace is read.
 use Rattle.std.specs.Prelude.{◌≡◌, List, ◌++◌, map, reverse}
 use Rattle.gs_base.specs.declared.names.PeerNo.{PeerNo}
 use Rattle.gs_plan.specs.declared.plan.Plan.{Plan}
@@ -14,13 +14,13 @@ use Rattle.gs_counts.specs.Memories.{Remembers}
 use Rattle.gs_counts.specs.Runs.{trace_happenings, trace_sizes}
 use Rattle.gs_counts.specs.Standing.{MeshSize, Shows}
 
--- It is what a trace of a peer of the plan says, and what goes out to its neighbours after it.
+-- The notes have what a trace of a peer of the plan says, and what goes out to its neighbours after the trace.
 pub record IsNoted (plan : Plan) (p : PeerNo) (notes : Notes) (L : Entries) : Type 0 where
   pub peer : notes.peer ≡ p
   pub memory : Remembers notes.memory L
   pub lanes : notes.lanes.items ≡ map (lane_of L) (neighbours plan p)
 
--- the later tables show a trace beside what the earlier ones show
+-- the later tables show a trace in addition to what the earlier ones show
 abbrev pub ShowsMore : Plan → PeerNo → Tables → Tables → Entries → Type 0
 ShowsMore plan p old new L =
     (hs : List Happening) (sizes : List MeshSize) → Shows plan old hs sizes

@@ -20,7 +20,7 @@ plus x y = min (x + y) most_told
 abbrev pub amount_of : List Happening → ℕ
 amount_of hs = sum_by (λ h. h.amount) hs
 
--- how often or how much happened of a kind
+-- how often a kind happened, or how much of it
 abbrev pub amount_in : List Happening → Kind → ℕ
 amount_in hs kind = amount_of (filter (λ h. same_kind h.kind kind) hs)
 
@@ -32,7 +32,7 @@ total hs kind = min (amount_in hs kind) most_told
 abbrev pub row_of : List Happening → Counts
 row_of hs = record { amounts = map (total hs) all_kinds }
 
--- the row of those among them that stand in it
+-- the row of the happenings among these that stand in it
 abbrev pub row_where : (Happening → Bool) → List Happening → Counts
 row_where stands hs = row_of (filter stands hs)
 
@@ -44,22 +44,22 @@ number_at amounts place = unwrap_or (slice_get amounts place) 0
 abbrev pub count_at : Counts → Kind → ℕ
 count_at counts kind = number_at counts.amounts (place_of kind)
 
--- what two rows are together, number by number
+-- the sum of two rows, number by number
 abbrev pub with_counts : Counts → Counts → Counts
 with_counts counts others = record { amounts = map (λ kind. plus (count_at counts kind) (count_at others kind)) all_kinds }
 
--- nothing happened
+-- the row in which nothing happened
 abbrev pub no_counts : Counts
 no_counts = row_of []
 
--- what stands at a place after a change, if something stands there
+-- a list with the element at a place changed, if there is one
 abbrev pub changed_at : {A : Type 0} → (A → A) → List A → ℕ → List A
 changed_at change xs place = elim (slice_get xs place) [ None ↦ xs | Some x ↦ slice_set xs place (change x) ]
 
--- with more at a place
+-- a row with an amount added at a place
 abbrev pub counted_at : Counts → ℕ → ℕ → Counts
 counted_at counts place amount = record { amounts = changed_at (λ number. plus number amount) counts.amounts place }
 
--- with more of a kind
+-- a row with an amount added to a kind
 abbrev pub counted : Counts → Kind → ℕ → Counts
 counted counts kind amount = counted_at counts (place_of kind) amount

@@ -40,8 +40,8 @@ use Rattle.gs_counts.specs.Topics.{subscribed}
 
 -- ---- an entry
 
--- What an entry is, but for what goes out over links: where this came to nothing at it, and this says what becomes of a
--- message.
+-- What an entry counts as, except what goes out over links. `fallen` is what came to nothing at it, and `fate` says what
+-- becomes of a message.
 abbrev pub done_happenings : (Message → List Mark → Fate) → Scene → List Fallen → Entry → List Happening
 done_happenings fate s fallen e =
     flat_map (fallen_happenings s) fallen
@@ -76,12 +76,12 @@ happenings plan peers = flat_map (peer_happenings plan) peers
 abbrev pub sizes_of : Millis → List (Topic × PeerNo) → List Topic → List MeshSize
 sizes_of at ms topics = map (λ t. (at, members_in ms t)) topics
 
--- by what is known after an entry
+-- the sizes of meshes by what is known after an entry
 abbrev pub known_sizes : Memory → Millis → Event → List MeshSize
 known_sizes memory at event =
     of_round_end (λ r. sizes_of at memory.meshes.members.items memory.meshes.topics.items) [] event
 
--- of each topic that a peer is subscribed to, where it ends a round
+-- the sizes of the meshes of each topic that a peer is subscribed to, if the entry ends a round
 abbrev pub entry_sizes : Entries → Entry → List MeshSize
 entry_sizes L e = of_round_end (λ r. sizes_of e.at (members (e ∷ L)) (subscribed (e ∷ L))) [] e.event
 
@@ -135,6 +135,6 @@ chosen_peers of peers = filter (λ (x : PeerNo × Finished). is_chosen of x.0) p
 abbrev pub peers_counts : Plan → List (PeerNo × Finished) → RunCounts
 peers_counts plan peers = counts_of plan (happenings plan peers) (mesh_sizes peers)
 
--- those of the chosen peers of a run
+-- the tables of the chosen peers of a run
 abbrev pub run_counts : Plan → Report → Chosen → RunCounts
 run_counts plan report of = peers_counts plan (chosen_peers of report.peers.items)

@@ -1,5 +1,4 @@
--- What happens where something is sent: the bytes of each RPC and each of its parts, once for each neighbour that it goes
--- to.
+-- What happens when something is sent: the bytes of each RPC and each of its parts, once for each neighbour that it goes to.
 use Rattle.std.specs.Prelude.{Bool, true, false, if◌then◌else◌, List, [], ◌∷◌, ◌++◌, length, Option, None, Some}
 use Rattle.std.specs.List.{flat_map}
 use Rattle.gs_base.specs.declared.names.PeerNo.{PeerNo}
@@ -83,7 +82,7 @@ bytes_kind (m ∷ ms) control = kinds.MessageBytesSent
 bytes_kind [] (Some control) = kinds.ControlBytesSent
 bytes_kind [] None = kinds.SubscriptionBytesSent
 
--- the bytes of its body, where it fits a frame: what fits none counts for nothing, and no run sends such
+-- the bytes of its body, if it fits a frame: an RPC that fits none does not count, and no run sends it
 abbrev pub bytes_sent : Scene → Rpc → List Happening
 bytes_sent s rpc =
     if codec.fits rpc then on_none s (bytes_kind rpc.publish rpc.control) (length (body rpc)) ∷ [] else []

@@ -40,8 +40,8 @@ abbrev pub is_on : Topic → Option Topic → Bool
 is_on t None = false
 is_on t (Some u) = same_topic u t
 
--- The peer from which the link goes that a happening concerns, and the one that it leads to: what the peer sent goes
--- from it, and what it heard comes to it.
+-- The link that a happening concerns, as the peer that it comes from and the peer that it leads to. If the peer is the
+-- sender, the link comes from it. If it heard, the link leads to it.
 abbrev pub link_of : Happening → Option (PeerNo × PeerNo)
 link_of h = elim h.neighbour [ None ↦ None | Some q ↦ Some (if is_of_sender h.kind then (h.peer, q) else (q, h.peer)) ]
 
@@ -68,7 +68,7 @@ links_from count hs n =
 abbrev pub link_rows : ℕ → List Happening → List (List Counts)
 link_rows count hs = map (links_from count hs) (range_with_len 0 count)
 
--- rows in which nothing stands, and lists of them
+-- empty rows, and lists of them
 abbrev pub empty_rows : ℕ → List Counts
 empty_rows count = map (λ n. no_counts) (range_with_len 0 count)
 
@@ -77,7 +77,7 @@ empty_grid count = map (λ n. empty_rows count) (range_with_len 0 count)
 
 -- ---- the table by topics
 
--- the topics that these are on, as often as they stand
+-- the topics that these are on, each as often as it occurs
 abbrev pub topics_in : List Happening → List Topic
 topics_in hs = flat_map (λ h. option_to_list h.topic) hs
 

@@ -17,8 +17,8 @@ act_subscribed (Publish t payload) before = before
 act_subscribed (Raw q bytes) before = before
 act_subscribed (HangUp q) before = before
 
--- The topics that a peer is subscribed to, in the order in which it subscribed. Each event is named here, so that a new
--- one is decided on.
+-- The topics that a peer is subscribed to, in the order in which it subscribed. Each event is named here, so that a new one
+-- must be decided on.
 abbrev pub subscribed_after : Event → List Topic → List Topic
 subscribed_after (Own act) before = act_subscribed act before
 subscribed_after (Heard q rpc) before = before

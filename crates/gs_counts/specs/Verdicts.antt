@@ -1,4 +1,4 @@
--- What a mark says of which messages were ignored when they were seen last.
+-- How a mark changes whether a message was ignored when it was last seen.
 use Rattle.std.specs.Prelude.{Bool, if◌then◌else◌, List}
 use Rattle.gs_base.specs.declared.names.MsgId.{MsgId}
 use Rattle.gs_base.specs.declared.mark.Mark.{Mark}
@@ -7,7 +7,7 @@ use Rattle.gs_base.specs.Names.{same_id}
 use Rattle.gs_rules.specs.Tables.{after_marks}
 use Rattle.gs_counts.specs.Fates.{is_ignore}
 
--- Each mark is named here, so that a new one is decided on.
+-- Each mark is named here, so that a new one must be decided on.
 abbrev pub ignored_by : MsgId → Mark → Bool → Bool
 ignored_by id (marks.Seen other verdict) before = if same_id other id then is_ignore verdict else before
 ignored_by id (marks.First q t other) before = before

@@ -1,4 +1,4 @@
-//! What an entry delivers to the peer's own user, and what it changes of meshes.
+//! What an entry delivers to the peer's own user, and how it changes meshes.
 ghost use Rattle.std.specs.Prelude.{◌≡◌, ◌∷◌, ◌++◌, OnOk};
 ghost use Rattle.std.specs.List.{flat_map};
 ghost use Rattle.gs_counts.specs.Changes.{cause_happenings, delivery_happenings, graft_cause, mark_happenings, prune_cause, refusal_happenings};
@@ -25,7 +25,7 @@ pub(crate) fn note_deliveries(
     Ok(())
 }
 
-/// Notes what marks of an event change of meshes.
+/// Notes how marks of an event change meshes.
 pub(crate) fn note_marks(
     list: &mut Vec<Happening>,
     scene: Scene,
@@ -40,7 +40,7 @@ pub(crate) fn note_marks(
     Ok(())
 }
 
-/// Notes what a mark of an event changes of meshes. Each mark is named, so that a new one is decided on.
+/// Notes how a mark of an event changes meshes. Each mark is named, so that a new one must be decided on.
 fn note_mark(
     list: &mut Vec<Happening>,
     scene: Scene,
@@ -81,7 +81,7 @@ fn note_mark(
     }
 }
 
-/// Notes a change of a mesh, and what it counts as besides.
+/// Notes a change of a mesh, and what else it counts as.
 fn note_change(
     list: &mut Vec<Happening>,
     scene: Scene,
@@ -99,8 +99,8 @@ fn note_change(
     }
 }
 
-/// What a neighbour that comes into a mesh at an event counts as besides, by what brought it in. Each event is named, so
-/// that a new one is decided on.
+/// What else a neighbour that comes into a mesh at an event counts as, by what brought it in. Each event is named, so that a
+/// new one must be decided on.
 fn graft_cause(event: &Event) -> Option<Kind>
     ensures { result ≡ graft_cause event.now }
 {
@@ -118,8 +118,8 @@ fn graft_cause(event: &Event) -> Option<Kind>
     }
 }
 
-/// What one that leaves a mesh at an event counts as besides, by what took it out. Each event is named, so that a new one
-/// is decided on.
+/// What else a neighbour that leaves a mesh at an event counts as, by what took it out. Each event is named, so that a new
+/// one must be decided on.
 fn prune_cause(event: &Event) -> Option<Kind>
     ensures { result ≡ prune_cause event.now }
 {

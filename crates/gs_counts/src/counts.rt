@@ -1,16 +1,16 @@
-//! A row of a table: how often or how much of each kind.
+//! A row of a table: how often each kind happened, or how much of it.
 ghost use Rattle.std.specs.Prelude.{◌≡◌, ◌<◌};
 ghost use Rattle.gs_counts.specs.Rows.{count_at, counted, counted_at, no_counts, with_counts};
 
 use crate::kind::{KINDS, Kind};
 
-/// How often or how much happened of each kind. A number that no `u64` holds is given as the greatest.
+/// How often each kind happened, or how much of it. A number above the largest `u64` is given as the largest.
 #[derive(Clone, Copy, Debug, PartialEq, Eq)]
 pub struct Counts {
     amounts: [u64; KINDS],
 }
 
-/// Nothing happened.
+/// Returns a row in which nothing happened.
 pub fn no_counts() -> Counts
     ensures { result ≡ no_counts }
 {
@@ -20,14 +20,14 @@ pub fn no_counts() -> Counts
 }
 
 impl Counts {
-    /// How often or how much happened of a kind.
+    /// Returns how often a kind happened, or how much of it.
     pub fn of(&self, kind: Kind) -> u64
         ensures { result ≡ count_at self.now kind }
     {
         self.amounts[kind.place()]
     }
 
-    /// What both are together, number by number.
+    /// Returns the sum of two rows, number by number.
     pub fn with(&self, others: &Counts) -> Counts
         ensures { result ≡ with_counts self.now others.now }
     {
@@ -38,14 +38,14 @@ impl Counts {
         both
     }
 
-    /// With more of a kind.
+    /// Adds an amount to a kind.
     pub(crate) fn add(&mut self, kind: Kind, amount: u64)
         ensures { self.new ≡ counted self.old kind amount }
     {
         self.add_at(kind.place(), amount);
     }
 
-    /// With more at a place.
+    /// Adds an amount at a place.
     fn add_at(&mut self, place: usize, amount: u64)
         requires { place < KINDS }
         ensures { self.new ≡ counted_at self.old place amount }

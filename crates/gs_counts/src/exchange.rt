@@ -21,13 +21,13 @@ ghost use Rattle.gs_counts.specs.Runs.{happenings, run_counts, trace_happenings}
 ghost use Rattle.gs_counts.specs.Said.{lane_told};
 ghost use Rattle.gs_counts.specs.Sums.{linked};
 
-/// Each RPC of a neighbour that a trace handles is counted once: as heard, as graylisted or as late.
+/// Each RPC from a neighbour that a trace handles is counted once: as heard, as graylisted or as late.
 pub fn rpcs_that_are_handled_came()
     ensures { (plan : PlanValue) (p q : PeerNoValue) (L : Entries)
         → rpcs_that_came (over_link q p (trace_happenings plan p L)) ≡ length (handled L q) }
 {}
 
-/// Where a trace puts no raw bytes on a link, the RPCs that are counted as sent are those that its bytes spell.
+/// If a legal trace puts no raw bytes on a link, as many RPCs are counted as sent as the bytes on that link spell.
 pub fn rpcs_that_are_counted_are_said()
     ensures { (peer : Peer) (p q : PeerNoValue) (L : Entries) (rpcs : List RpcValue)
         → Legal peer L
@@ -36,8 +36,8 @@ pub fn rpcs_that_are_counted_are_said()
         → amount_in (lane_told p q L) RpcsSent ≡ length rpcs }
 {}
 
-/// Over each link for which the script has no raw bytes, the RPCs that are counted as heard, as graylisted and as late make
-/// up those that are counted as sent (`amounts`). So it is in the rows of links whose ends are both counted (`rows`).
+/// If the script has no raw bytes for a link, its RPCs sent are as many as its RPCs heard, graylisted and late together
+/// (`amounts`). The same holds in the rows of links, if both ends are counted (`rows`).
 pub fn rpcs_that_were_sent_came()
     ensures amounts { (plan : PlanValue) (report : ReportValue)
         → IsReport plan report

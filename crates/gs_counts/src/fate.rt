@@ -15,11 +15,11 @@ use gs_base::{Mark, Message, MsgId, Topic, Verdict};
 pub enum Fate {
     /// It was new to the peer, and accepted.
     New,
-    /// The peer had accepted it lately.
+    /// The peer had recently accepted it.
     Duplicate,
-    /// It was found to be ignored, or had been lately.
+    /// Validation ignored it, or had ignored it recently.
     Ignored,
-    /// It was rejected, or had been lately, and counts against its sender.
+    /// It was rejected, or had been rejected recently, and counts against its sender.
     Rejected,
     /// It has a field that StrictNoSign forbids.
     Signed,
@@ -57,7 +57,7 @@ impl Fate {
     }
 }
 
-/// What became of a message whose entry has these marks, at a peer that knows this.
+/// What became of a message whose entry has these marks, at a peer about which this is known.
 pub(crate) fn fate_of(memory: &Memory, message: &Message, marks: &[Mark]) -> Fate
     ensures { result ≡ known_fate memory.now message.now marks.now }
 {
@@ -73,7 +73,7 @@ pub(crate) fn fate_of(memory: &Memory, message: &Message, marks: &[Mark]) -> Fat
     }
 }
 
-/// Whether the topic that is named is among these; an absent one is the empty one.
+/// Whether the named topic is among these. An absent name is the empty one.
 fn has_topic(topics: &[Topic], topic: &Option<Topic>) -> bool
     ensures { result ≡ list_any (same_topic (topic_or_empty topic.now)) topics.now }
 {
@@ -83,7 +83,7 @@ fn has_topic(topics: &[Topic], topic: &Option<Topic>) -> bool
     }
 }
 
-/// What the first of these marks shows that shows anything.
+/// What these marks show: the first one that shows anything counts.
 fn shown_in(marks: &[Mark]) -> Option<Fate>
     ensures { result ≡ shown marks.now }
 {
@@ -95,7 +95,7 @@ fn shown_in(marks: &[Mark]) -> Option<Fate>
     None
 }
 
-/// What a mark shows of what became of the message. Each mark is named, so that a new one is decided on.
+/// What a mark shows about what became of the message. Each mark is named, so that a new one must be decided on.
 fn shown_by(mark: &Mark) -> Option<Fate>
     ensures { result ≡ shown_by mark.now }
 {
@@ -129,7 +129,7 @@ fn found_so(verdict: Verdict) -> Option<Fate>
     }
 }
 
-/// What became of a message that comes again. Its identifier is asked for only where one was ignored.
+/// What became of a message that comes again. Its identifier is computed only if some message was ignored.
 fn again(verdicts: &Verdicts, message: &Message) -> Fate
     ensures { result ≡ again (was_ignored verdicts.now (message_id (payload_of message.now))) }
 {

@@ -12,9 +12,9 @@ use std::alloc::AllocError;
 pub struct Happening {
     pub kind: Kind,
     pub amount: u64,
-    /// The moment of the entry that it stands in.
+    /// The moment at which it happened.
     pub at: Millis,
-    /// The peer that did it: who heard, sent, delivered or refused.
+    /// The peer that did it: it heard, sent, delivered or refused something, for example.
     pub peer: PeerNo,
     /// The neighbour that it concerns, if it concerns one.
     pub neighbour: Option<PeerNo>,
@@ -22,7 +22,7 @@ pub struct Happening {
     pub topic: Option<Topic>,
 }
 
-/// At which moment something happens, at which peer, and of which neighbour.
+/// The moment and the peer at which something happens, and the neighbour that it concerns.
 #[derive(Clone, Copy, Debug, PartialEq, Eq)]
 pub(crate) struct Scene {
     pub at: Millis,
@@ -31,7 +31,7 @@ pub(crate) struct Scene {
 }
 
 impl Scene {
-    /// That of a peer, which concerns no neighbour.
+    /// A scene at a peer that concerns no neighbour.
     pub(crate) fn of(at: Millis, peer: PeerNo) -> Scene
         ensures { result ≡ of_peer at peer }
     {
@@ -42,7 +42,7 @@ impl Scene {
         }
     }
 
-    /// The same with a neighbour.
+    /// The same scene, concerning a neighbour.
     pub(crate) fn with(self, neighbour: PeerNo) -> Scene
         ensures { result ≡ heard_of self neighbour }
     {
@@ -52,7 +52,7 @@ impl Scene {
         }
     }
 
-    /// The neighbour as the peer, which concerns this one.
+    /// The scene with a neighbour as its peer. It concerns this scene's peer.
     pub(crate) fn turned(self, neighbour: PeerNo) -> Scene
         ensures { result ≡ by_neighbour self neighbour }
     {
@@ -90,7 +90,7 @@ pub(crate) fn note_on(
     note_it(list, scene, Some(topic), kind, amount)
 }
 
-/// Notes something that is on the topic that is named; an absent one is the empty one.
+/// Notes something that is on the named topic. An absent name is the empty one.
 pub(crate) fn note_on_named(
     list: &mut Vec<Happening>,
     scene: Scene,

@@ -1,4 +1,4 @@
-//! What an event is: an RPC or a part of one that was heard, a link that was cut, or what came to nothing.
+//! What an event counts as: an RPC or a part of one that was heard, a link that was cut, or something without effect.
 ghost use Rattle.std.specs.Prelude.{◌≡◌, ◌++◌, OnOk};
 ghost use Rattle.std.specs.List.{flat_map};
 ghost use Rattle.gs_counts.specs.Fates.{known_fate};
@@ -12,7 +12,7 @@ use gs_base::{IHave, IWant, Mark, Message};
 use gs_rules::{Event, Fallen, GraftRefusal, Loss, NoAnswer, RpcPart};
 use std::alloc::AllocError;
 
-/// What came to nothing, and what the entry is at which it did.
+/// An entry's event and marks, and what came to nothing at it.
 #[derive(Clone, Copy)]
 pub(crate) struct Did<'a> {
     pub event: &'a Event,
@@ -20,7 +20,7 @@ pub(crate) struct Did<'a> {
     pub fallen: &'a [Fallen],
 }
 
-/// Notes what an event is, at a peer that knows this. Each event is named, so that a new one is decided on.
+/// Notes what an event counts as, at a peer about which this is known. Each event is named, so that a new one must be decided on.
 pub(crate) fn note_event(
     list: &mut Vec<Happening>,
     memory: &Memory,
@@ -44,7 +44,7 @@ pub(crate) fn note_event(
     }
 }
 
-/// Notes an RPC, if it was handled: it did not come to nothing.
+/// Notes an RPC, if it was handled, that is, if nothing fell away at its event.
 fn note_rpc(list: &mut Vec<Happening>, scene: Scene, fallen: &[Fallen]) -> Result<(), AllocError>
     ensures { OnOk result (list.new.items ≡ list.old.items ++ rpc_happenings scene fallen.now) }
 {
@@ -63,7 +63,7 @@ fn note_loss(list: &mut Vec<Happening>, scene: Scene, loss: Loss) -> Result<(), 
     }
 }
 
-/// Notes a part of an RPC. Each kind of parts is named, so that a new one is decided on.
+/// Notes a part of an RPC. Each kind of parts is named, so that a new one must be decided on.
 fn note_part(
     list: &mut Vec<Happening>,
     memory: &Memory,
@@ -130,7 +130,7 @@ fn note_request(list: &mut Vec<Happening>, scene: Scene, request: &IWant) -> Res
 
 // ---- what came to nothing
 
-/// Notes all that came to nothing at an entry.
+/// Notes everything that had no effect at an entry.
 pub(crate) fn note_all_fallen(
     list: &mut Vec<Happening>,
     scene: Scene,
@@ -144,7 +144,7 @@ pub(crate) fn note_all_fallen(
     Ok(())
 }
 
-/// Notes something that came to nothing. A promise that was broken stands with the neighbour that broke it.
+/// Notes something that had no effect. A broken promise counts for the neighbour that broke it.
 fn note_fallen(list: &mut Vec<Happening>, scene: Scene, fallen: &Fallen) -> Result<(), AllocError>
     ensures { OnOk result (list.new.items ≡ list.old.items ++ fallen_happenings scene fallen.now) }
 {

@@ -5,22 +5,21 @@ ghost use Rattle.gs_counts.specs.Kinds.{is_of_sender, place_of};
 /// How many kinds there are.
 pub const KINDS: usize = 51;
 
-/// What is counted. Of a part of an RPC the peer is who heard it or who sent it, and the neighbour is the other end.
+/// What is counted. For a part of an RPC, the peer heard it or sent it, and the neighbour is the other end.
 #[derive(Clone, Copy, Debug, PartialEq, Eq)]
 pub enum Kind {
     // ---- what each peer heard
-    /// RPCs that a peer heard and handled. Those that came late, or of a neighbour on the graylist, are not among
-    /// them.
+    /// RPCs that a peer heard and handled. RPCs that came late, or from a neighbour on the graylist, are not among them.
     RpcsHeard,
     /// Messages heard that were new to the peer, and accepted.
     New,
-    /// Messages heard that the peer had accepted lately.
+    /// Messages heard that the peer had recently accepted.
     Duplicates,
-    /// Messages heard that were found to be ignored, and copies of such.
+    /// Messages heard that validation ignored, and copies of them.
     Ignored,
-    /// Messages heard that were rejected, and copies of such: each counts against its sender.
+    /// Messages heard that were rejected, and copies of them. Each counts against its sender.
     Rejected,
-    /// Messages heard that have a field which StrictNoSign forbids.
+    /// Messages heard that have a field that StrictNoSign forbids.
     Signed,
     /// Messages heard on a topic that the peer was not subscribed to.
     OffTopic,
@@ -28,7 +27,7 @@ pub enum Kind {
     PayloadBytesNew,
     /// Bytes of the payloads of all other messages heard.
     PayloadBytesAgain,
-    /// Changes of subscriptions that neighbours said.
+    /// Changes of subscriptions that neighbours announced.
     SubscriptionsHeard,
     /// Offers of messages (IHAVE) that were heard.
     IhaveHeard,
@@ -44,25 +43,25 @@ pub enum Kind {
     PruneHeard,
 
     // ---- what each peer sent
-    /// Frames that went out, each of the RPCs that were gathered for it.
+    /// Frames that went out. Each holds the RPCs that were gathered for it.
     RpcsSent,
-    /// Bytes that went out: those of frames, with the lengths before them, and those of the script as they are.
+    /// Bytes that went out: frames with the lengths before them, and raw bytes of the script.
     BytesSent,
-    /// Those of them that the script put on a link as they are.
+    /// Bytes that went out because the script put them on a link unchanged.
     RawBytesSent,
-    /// Bytes of the bodies of RPCs that have messages. Each RPC counts as an entry sends it, before it is gathered, and once for
-    /// each neighbour that it goes to.
+    /// Bytes of the bodies of RPCs that have messages. An RPC counts as an entry sends it, before it is gathered. It counts
+    /// once for each neighbour that it goes to.
     MessageBytesSent,
-    /// Bytes of the bodies of those that have control messages, and no messages.
+    /// Bytes of the bodies of RPCs that have control messages, and no messages.
     ControlBytesSent,
-    /// Bytes of the bodies of those that have neither.
+    /// Bytes of the bodies of RPCs that have neither messages nor control messages.
     SubscriptionBytesSent,
     /// Changes of subscriptions that were sent. Each part that is sent counts once for each neighbour that it goes
     /// to.
     SubscriptionsSent,
-    /// Messages that were sent unasked.
+    /// Messages that were sent without a request.
     MessagesPushed,
-    /// Messages that were sent since a neighbour asked for them.
+    /// Messages that were sent because a neighbour asked for them.
     MessagesAnswered,
     /// Offers (IHAVE) that were sent.
     IhaveSent,
@@ -78,52 +77,52 @@ pub enum Kind {
     PruneSent,
 
     // ---- what came to nothing
-    /// RPCs that were not handled, since their sender was on the graylist.
+    /// RPCs that were not handled, because their sender was on the graylist.
     RpcsGraylisted,
     /// RPCs that came after their sender was lost.
     RpcsLate,
-    /// Links that a peer cut, since a neighbour's bytes spelled no RPC or ended within one.
+    /// Links that a peer cut, because a neighbour's bytes spelled no RPC or ended within one.
     Faults,
-    /// GRAFTs that were refused, since their sender is explicit.
+    /// GRAFTs that were refused, because their sender is explicit.
     GraftRefusedExplicit,
-    /// GRAFTs that were refused, since they came before the end of a backoff.
+    /// GRAFTs that were refused, because they came before the end of a backoff.
     GraftRefusedBackoff,
-    /// GRAFTs that were refused, since their sender scored below 0.
+    /// GRAFTs that were refused, because their sender scored below 0.
     GraftRefusedScore,
-    /// GRAFTs that were refused, since the mesh was full.
+    /// GRAFTs that were refused, because the mesh was full.
     GraftRefusedFull,
-    /// Identifiers asked for that got no message, since who asked scored too low.
+    /// Requested identifiers that got no message, because the score of the peer that asked was too low.
     IdsNotSentScore,
-    /// Identifiers asked for that got no message, since who asked had it as often as it may.
+    /// Requested identifiers that got no message, because the peer that asked had already got that message as often as allowed.
     IdsNotSentTooOften,
-    /// Identifiers asked for that got no message, since none was kept.
+    /// Requested identifiers that got no message, because no such message was kept.
     IdsNotSentNotKept,
-    /// Promises that a peer broke. It stands with that peer, and the neighbour is the one that waited.
+    /// Promises that a peer broke. They count for that peer, and the neighbour is the one that waited.
     PromisesBroken,
     /// Lines of the script that were refused.
     RefusedLines,
 
     // ---- deliveries and meshes
-    /// Deliveries to the peer's own user, of what it published itself, too.
+    /// Deliveries to the peer's own user, including what it published itself.
     Delivered,
-    /// Neighbours that came into a mesh of the peer, whoever grafted whom.
+    /// Neighbours that came into a mesh of the peer, whichever of the two grafted the other.
     Grafted,
-    /// Those of them that came in by a part of an RPC that was heard of them: their GRAFT.
+    /// Neighbours that came into a mesh by a part of an RPC that was heard from them: their GRAFT.
     GraftedByNeighbour,
-    /// Those of them that came in by a step of a heartbeat.
+    /// Neighbours that came into a mesh by a step of a heartbeat.
     GraftedByHeartbeat,
-    /// Neighbours that left a mesh of the peer, for whatever reason.
+    /// Neighbours that left a mesh of the peer, for any reason.
     Pruned,
-    /// Those of them that left by a part of an RPC that was heard of them: their PRUNE, or their leave of the topic.
+    /// Neighbours that left a mesh by a part of an RPC that was heard from them: a PRUNE, or that they left the topic.
     PrunedByNeighbour,
-    /// Those of them that left by a step of a heartbeat.
+    /// Neighbours that left a mesh by a step of a heartbeat.
     PrunedByHeartbeat,
-    /// Those of them that left since they were lost.
+    /// Neighbours that left a mesh because they were lost.
     PrunedByLoss,
 }
 
 impl Kind {
-    /// All of them, in the order of columns.
+    /// All kinds, in the order of the columns.
     pub const ALL: [Kind; 51] = [
         Kind::RpcsHeard,
         Kind::New,
@@ -178,7 +177,7 @@ impl Kind {
         Kind::PrunedByLoss,
     ];
 
-    /// Its place among all of them.
+    /// Returns its place among all kinds.
     pub fn place(self) -> usize
         ensures place { result ≡ place_of self }
         ensures within { result < KINDS }
@@ -238,8 +237,8 @@ impl Kind {
         }
     }
 
-    /// Whether the peer is who sent, and the neighbour who heard. Else it is the other way round. A promise is broken
-    /// by the peer that made it.
+    /// Says whether the peer is the sender and the neighbour is the one that hears. Otherwise it is the other way round. A
+    /// promise is broken by the peer that made it.
     pub fn is_of_sender(self) -> bool
         ensures { result ≡ is_of_sender self }
     {

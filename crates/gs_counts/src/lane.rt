@@ -1,4 +1,4 @@
-//! What goes out to a neighbour, entry by entry: frames, and bytes as they are.
+//! What goes out to a neighbour, entry by entry: frames, and raw bytes.
 ghost use Rattle.std.specs.Prelude.{◌≡◌, ◌∷◌, [], ◌++◌, OnOk, false, map, None, option_to_list, true};
 ghost use Rattle.std.specs.List.{flat_map};
 ghost use Rattle.gs_rules.specs.Saying.{gather};
@@ -44,8 +44,8 @@ pub(crate) fn tell_all(
     Ok(())
 }
 
-/// Whether an entry puts out nothing to anybody, whatever is gathered. Each event is named, so that a new one is decided
-/// on.
+/// Whether an entry puts out nothing to any neighbour, regardless of what is gathered. Each event is named, so that a new
+/// one must be decided on.
 fn is_silent(entry: &StoredEntry) -> bool
     ensures { result ≡ true → IsSilent entry.now }
 {
@@ -67,7 +67,7 @@ fn is_silent(entry: &StoredEntry) -> bool
 }
 
 impl Lane {
-    /// To a neighbour, before anything was said to it.
+    /// A lane to a neighbour before anything was sent to it.
     pub(crate) fn new(alloc: Global, to: PeerNo) -> Lane
         ensures { result ≡ new_lane to }
     {
@@ -113,7 +113,7 @@ impl Lane {
         Ok(())
     }
 
-    /// Gathers a send, if it is to the neighbour. What fits no frame counts for nothing.
+    /// Gathers a send, if it is to the neighbour. An RPC that fits no frame does not count.
     fn send_one(
         &mut self,
         list: &mut Vec<Happening>,
@@ -155,7 +155,7 @@ impl Lane {
         Ok(())
     }
 
-    /// Puts out what is gathered as one frame, where something is.
+    /// Puts out what is gathered as one frame, if anything is.
     fn put_out(&mut self, list: &mut Vec<Happening>, scene: Scene) -> Result<(), AllocError>
         ensures list { OnOk result (list.new.items
             ≡ list.old.items ++ frames_out scene (option_to_list self.old.gathered)) }
@@ -206,7 +206,7 @@ impl Lane {
         }
     }
 
-    /// Puts out as many bytes as they are, after what is gathered, if they go to the neighbour.
+    /// Puts out this many raw bytes after what is gathered, if they go to the neighbour.
     fn put_raw(
         &mut self,
         list: &mut Vec<Happening>,

@@ -26,40 +26,40 @@ ghost use Rattle.gs_counts.specs.Standing.{goes_over, is_at, is_in, link_of, top
 ghost use Rattle.gs_counts.specs.Sums.{MakeUp, in_none, linked, stands_on};
 ghost use Rattle.gs_counts.specs.Topics.{subscribed};
 
-/// What is counted of a message whose entry follows the rule is what the rule makes of it.
+/// If the entry of a message has the marks of the rule, the message is counted as what the rule makes of it.
 pub fn fates_are_those_of_the_rule()
     ensures { (p : Peer) (L : Entries) (at : MillisValue) (q : PeerNoValue) (m : MessageValue)
         → fate_after L m (message_rule p L at q m).marks ≡ ruled_fate p L at.0 m }
 {}
 
-/// The topics whose meshes are counted of a peer are those that its trace has as joined.
+/// The topics for which a peer's meshes are counted are the topics that the peer has joined, according to its trace.
 pub fn subscribed_topics_are_joined()
     ensures { (t : TopicValue) (L : Entries) → list_any (same_topic t) (subscribed L) ≡ joined L t }
 {}
 
-/// The members that are counted of a mesh are as many as its trace has in it.
+/// As many members of a mesh are counted as the trace has in that mesh.
 pub fn members_are_those_of_meshes()
     ensures { (t : TopicValue) (L : Entries) → members_in (members L) t ≡ length (mesh L t) }
 {}
 
-/// The rows of peers make up the whole, with what no peer of the plan did.
+/// The rows of peers, with what no peer of the plan did, add up to the whole.
 pub fn rows_of_peers_make_up_the_whole()
     ensures { (plan : PlanValue) (hs : List HappeningValue) → MakeUp is_at (numbers plan) hs }
 {}
 
-/// The rows of rounds make up the whole, with what lies after the last round.
+/// The rows of rounds, with what lies after the last round, add up to the whole.
 pub fn rows_of_rounds_make_up_the_whole()
     ensures { (round_ms count : ℕ) (hs : List HappeningValue) → MakeUp (is_in round_ms) (range_with_len 0 count) hs }
 {}
 
-/// The rows of topics make up the whole, with what is on no topic.
+/// The rows of topics, with what is on no topic, add up to the whole.
 pub fn rows_of_topics_make_up_the_whole()
     ensures whole { (hs : List HappeningValue) → MakeUp stands_on (ascending (topics_in hs)) hs }
     ensures none { (hs : List HappeningValue)
         → filter (in_none stands_on (ascending (topics_in hs))) hs ≡ filter (λ h. is_none h.topic) hs }
 {}
 
-/// One thing becomes of each message that is heard, and the bytes of its payload count once.
+/// Each message that is heard counts as exactly one kind of message, and the bytes of its payload count once.
 pub fn each_message_becomes_one_thing()
     ensures one { (fate : MessageValue → List MarkValue → FateValue) (s : SceneValue) (m : MessageValue) (marks : List MarkValue)
         → sum_by (amount_in (part_happenings fate s (Msg m) marks)) ends_of_messages ≡ 1 }
@@ -67,7 +67,7 @@ pub fn each_message_becomes_one_thing()
         → sum_by (amount_in (part_happenings fate s (Msg m) marks)) payloads_of_messages ≡ length (payload_of m) }
 {}
 
-/// The rows of links make up the whole, with what concerns no link of the plan.
+/// The rows of links, with what concerns no link of the plan, add up to the whole.
 pub fn rows_of_links_make_up_the_whole()
     ensures { (plan : PlanValue) (hs : List HappeningValue)
         → MakeUp (λ x h. goes_over x.0 x.1 (link_of h)) (linked plan) hs }

@@ -1,4 +1,4 @@
-//! How long RPCs are as bytes. A message by itself is measured, and what else is sent is written.
+//! How long RPCs are as bytes. The length of an RPC with one message only is computed, and any other RPC is written to find it.
 ghost use Rattle.std.specs.Prelude.{◌≡◌, ◌≤◌, ◌+◌, if◌then◌else◌, IfOk, IfSome, length, nat_le, None, Some};
 ghost use Rattle.gs_base.specs.Rpcs.{passed_on, publication};
 ghost use Rattle.gs_wire.specs.Messages.{body, frame, longest_body};
@@ -9,7 +9,7 @@ use gs_base::{LONGEST_TOPIC, Message, Rpc, Topic};
 use gs_wire::{MAX_BODY, WireFault, encode, publish_len};
 use std::alloc::{AllocError, Global};
 
-/// The length of the body of an RPC, where that fits a frame.
+/// The length of the body of an RPC, if that fits a frame.
 pub(crate) fn body_len(alloc: Global, rpc: &Rpc) -> Result<Option<u64>, AllocError>
     ensures len { IfOk result (λ len. len ≡ body_length rpc.now) }
     ensures within { IfOk result (λ len. IfSome len (λ n. n ≤ longest_body)) }
@@ -30,7 +30,7 @@ pub(crate) fn frame_len(alloc: Global, rpc: &Rpc) -> Result<u64, AllocError>
     }
 }
 
-/// The length of what stands before a body of this length in a frame.
+/// The length of the prefix of a body of this length in a frame.
 fn prefix_len(body: u64) -> u64
     requires { body ≤ longest_body }
     ensures len { result ≡ length (varint body) }
@@ -56,7 +56,7 @@ fn fitting(len: usize) -> Option<u64>
     Some(len as u64)
 }
 
-/// The length of the body of an RPC, where that fits a frame. It is written.
+/// The length of the body of an RPC, if that fits a frame. The body is written to find it.
 fn written_len(alloc: Global, rpc: &Rpc) -> Result<Option<u64>, AllocError>
     ensures len { IfOk result (λ len. len ≡ body_length rpc.now) }
     ensures within { IfOk result (λ len. IfSome len (λ n. n ≤ longest_body)) }
@@ -82,7 +82,7 @@ fn publication_len(rpc: &Rpc) -> Option<usize>
     }
 }
 
-/// The length of the body of an RPC of one message, where that is one under StrictNoSign.
+/// The length of the body of an RPC of one message, if that is a message under StrictNoSign.
 fn message_len(message: &Message) -> Option<usize>
     ensures { IfSome result (λ len. len ≡ length (body (passed_on message.now))) }
 {
@@ -95,7 +95,7 @@ fn message_len(message: &Message) -> Option<usize>
     }
 }
 
-/// The length of the body of an RPC of one message with only a payload and a topic, where that is short enough.
+/// The length of the body of an RPC of one message with only a payload and a topic, if the topic is short enough.
 fn unsigned_len(topic: &Topic, payload: &[u8]) -> Option<usize>
     ensures { IfSome result (λ len. len ≡ length (body (publication topic.now payload.now))) }
 {

@@ -1,5 +1,5 @@
-//! What happened in a run, counted: by peer, by topic, by link, by round and in all. A run is one list of happenings,
-//! and each number of a table is the sum of the amounts of those that stand in its row.
+//! What happened in a run, counted: by peer, by topic, by link, by round and in all. A run is one list of happenings. Each
+//! number of a table is the sum of the amounts of the happenings in its row.
 #![tactic(auto)]
 
 mod changes;

@@ -1,4 +1,4 @@
-//! What is known of a peer after a part of its trace.
+//! What is known about a peer after a part of its trace.
 ghost use Rattle.std.specs.Prelude.{[], ◌∷◌, OnOk};
 ghost use Rattle.gs_counts.specs.Memories.{Remembers};
 ghost use Rattle.gs_rules.specs.Tables.{Entries};
@@ -8,8 +8,8 @@ use crate::verdicts::Verdicts;
 use gs_rules::StoredEntry;
 use std::alloc::{AllocError, Global};
 
-/// What is known of a peer after a part of its trace: the topics that it is subscribed to, who is in their meshes, and
-/// which messages it ignored.
+/// What is known about a peer after a part of its trace. These are the topics that it is subscribed to, the members of their
+/// meshes, and the messages that it ignored.
 #[derive(Drop)]
 pub(crate) struct Memory {
     pub meshes: Meshes,
@@ -17,7 +17,7 @@ pub(crate) struct Memory {
 }
 
 impl Memory {
-    /// After nothing.
+    /// What is known before the first entry.
     pub(crate) fn new(alloc: Global) -> Memory
         ensures { Remembers result [] }
     {
@@ -27,7 +27,7 @@ impl Memory {
         }
     }
 
-    /// After an entry more.
+    /// Notes what one more entry says.
     pub(crate) fn note(&mut self, entry: &StoredEntry) -> Result<(), AllocError>
         ensures { OnOk result ((L : Entries) → Remembers self.old L → Remembers self.new (entry.now ∷ L)) }
     {

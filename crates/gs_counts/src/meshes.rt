@@ -47,7 +47,7 @@ fn note_marks(members: &mut Vec<(Topic, PeerNo)>, marks: &[Mark]) -> Result<(), 
     Ok(())
 }
 
-/// Notes what a mark changes. Each mark is named, so that a new one is decided on.
+/// Notes what a mark changes. Each mark is named, so that a new one must be decided on.
 fn note_mark(members: &mut Vec<(Topic, PeerNo)>, mark: &Mark) -> Result<(), AllocError>
     ensures { OnOk result (members.new.items ≡ members_after mark.now members.old.items) }
 {
@@ -74,7 +74,7 @@ fn note_mark(members: &mut Vec<(Topic, PeerNo)>, mark: &Mark) -> Result<(), Allo
     }
 }
 
-/// Puts a member in its place among those of its topic, who ascend by number.
+/// Puts a member in its place among the members of its topic, which ascend by number.
 fn put_member(
     members: &mut Vec<(Topic, PeerNo)>,
     topic: &Topic,
@@ -90,7 +90,7 @@ fn put_member(
     Ok(())
 }
 
-/// How many stand before the first one that a member of a topic's mesh does not come after.
+/// How many members a member of a topic's mesh comes after, up to the first that it does not come after.
 fn place_of(members: &[(Topic, PeerNo)], topic: &Topic, peer: PeerNo) -> usize
     ensures within { result ≤ length members.now }
     ensures place { put_member topic.now peer members.now

@@ -33,7 +33,7 @@ pub struct PeerCounts {
     pub counts: Counts,
 }
 
-/// What happened over the link from one peer to another: what the one sent, and what the other heard of it.
+/// What happened over the link from one peer to another: what the first sent, and what the second heard from it.
 #[derive(Clone, Copy, Debug, PartialEq, Eq)]
 pub struct LinkCounts {
     pub from: PeerNo,
@@ -48,13 +48,13 @@ pub struct TopicCounts {
     pub counts: Counts,
 }
 
-/// What happened in a round, at all peers: what stands at a moment that lies in it.
+/// What happened at all peers in a round, that is, at a moment in the round.
 #[derive(Clone, Copy, Debug, PartialEq, Eq)]
 pub struct RoundCounts {
     /// Its number. The first round is 0.
     pub round: u64,
     pub counts: Counts,
-    /// How many members the smallest and the largest mesh of all peers' topics had when the peers ended the round.
+    /// The sizes of the smallest and the largest mesh of all peers' topics, when the peers ended the round.
     pub members: Option<Span>,
 }
 
@@ -67,17 +67,17 @@ pub struct RunCounts {
     pub links: Seq<LinkCounts>,
     /// A row for each topic on which something happened, in the order of their bytes.
     pub topics: Seq<TopicCounts>,
-    /// A row for each round, the last one of the plan included. What lies after that is in none.
+    /// A row for each round, including the last one of the plan. What lies after that is in no row.
     pub rounds: Seq<RoundCounts>,
     /// All that happened.
     pub all: Counts,
 }
 
-/// What happened in a run of a plan, as the traces of some peers say. The tables have a row for each peer and each link of
-/// the plan all the same. In each trace no entry may be earlier than the one before it.
+/// Returns what happened in a run of a plan, according to the traces of the peers in `of`. The tables still have a row for
+/// each peer and each link of the plan. In each trace no entry may be earlier than the one before it.
 ///
 /// # Errors
-/// `AllocError` where there was no memory for it.
+/// `AllocError` when out of memory.
 pub fn run_counts(
     alloc: Global,
     plan: &Plan,
@@ -93,7 +93,7 @@ pub fn run_counts(
     Ok(counts)
 }
 
-/// The tables of the traces of those of these peers that are chosen.
+/// The tables of the traces of these peers, as far as they are chosen.
 fn tables_of(
     alloc: Global,
     plan: &Plan,
@@ -112,7 +112,7 @@ fn tables_of(
     Ok(tables)
 }
 
-/// Notes all that happened at a peer, if it is chosen.
+/// Notes everything that happened at a peer, if the peer is chosen.
 fn note_chosen(
     alloc: Global,
     plan: &Plan,
@@ -272,8 +272,8 @@ fn round_rows(
     Ok(rounds)
 }
 
-/// How often or how much of a kind went over those of these links that lead to a peer. A number that no `u64` holds is
-/// given as the greatest.
+/// Returns how often a kind went over the links in `links` that lead to a peer, or how much of it. A number above the
+/// largest `u64` is given as the largest.
 pub fn over_links(links: &[LinkCounts], to: PeerNo, kind: Kind) -> u64
     ensures { result ≡ over_links links.now to kind }
 {
@@ -284,7 +284,7 @@ pub fn over_links(links: &[LinkCounts], to: PeerNo, kind: Kind) -> u64
     sum
 }
 
-/// A sum with what went over a link, if it leads to a peer.
+/// A sum with what went over a link added, if the link leads to a peer.
 fn with_link(sum: u64, link: &LinkCounts, to: PeerNo, kind: Kind) -> u64
     ensures { result ≡ with_links kind sum (links_to to (link.now ∷ [])) }
 {

@@ -1,4 +1,4 @@
-//! What is counted of a link is what the peer's trace says to the neighbour.
+//! What is counted for a link is what the peer's trace says to the neighbour.
 ghost use Rattle.std.specs.Prelude.{◌≡◌, length, map};
 ghost use Rattle.gs_base.specs.declared.names.PeerNo.{PeerNo as PeerNoValue};
 ghost use Rattle.gs_rules.specs.Legal.{Legal};
@@ -11,14 +11,13 @@ ghost use Rattle.gs_counts.specs.Lanes.{fitting};
 ghost use Rattle.gs_counts.specs.Rows.{amount_in};
 ghost use Rattle.gs_counts.specs.Said.{lane_told};
 
-/// The bytes that are counted of a link are those that the peer's trace says to the neighbour.
+/// As many bytes are counted for a link as the peer's trace says to the neighbour, without sends that fit no frame.
 pub fn bytes_that_are_counted_are_said()
     ensures { (p q : PeerNoValue) (L : Entries)
         → amount_in (lane_told p q L) BytesSent ≡ length (bytes_of (out codec (map fitting L) q)) }
 {}
 
-/// A legal trace, which each of a run is, sends nothing that fits no frame. So what is counted of it is all that it
-/// says.
+/// A legal trace sends nothing that fits no frame, so all that it says is counted. Each trace of a run is legal.
 pub fn all_of_a_legal_trace_counts()
     ensures { (p : Peer) (L : Entries) → Legal p L → map fitting L ≡ L }
 {}

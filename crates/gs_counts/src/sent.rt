@@ -1,4 +1,4 @@
-//! What an entry sends: the bytes of each RPC, and part by part.
+//! What an entry sends: the bytes of each RPC, and each of its parts.
 ghost use Rattle.std.specs.Prelude.{◌≡◌, ◌++◌, OnOk, Some};
 ghost use Rattle.std.specs.List.{flat_map};
 ghost use Rattle.gs_counts.specs.Sent.{bytes_kind, bytes_sent, control_sent, graft_sent, ihave_sent, is_answer, is_request, iwant_sent, message_sent, message_sent_kind, prune_sent, rpc_sent, send_happenings, sub_sent};
@@ -10,7 +10,7 @@ use gs_base::{Control, Graft, IHave, IWant, Message, PeerNo, Prune, Rpc, Shared,
 use gs_rules::{Event, RpcPart};
 use std::alloc::AllocError;
 
-/// Whether what is sent at an event answers a request. Each event is named, so that a new one is decided on.
+/// Whether what is sent at an event answers a request. Each event is named, so that a new one must be decided on.
 pub(crate) fn is_answer(event: &Event) -> bool
     ensures { result ≡ is_answer event.now }
 {
@@ -41,7 +41,7 @@ fn is_request(part: &RpcPart) -> bool
     }
 }
 
-/// Notes all that is sent, once for each neighbour that it goes to.
+/// Notes everything that is sent, once for each neighbour that it goes to.
 pub(crate) fn note_sends(
     list: &mut Vec<Happening>,
     scene: Scene,
@@ -73,7 +73,7 @@ fn note_rpc_sent(
     }
 }
 
-/// Notes the bytes of an RPC's body, where it fits a frame.
+/// Notes the bytes of an RPC's body, if it fits a frame.
 fn note_bytes(list: &mut Vec<Happening>, scene: Scene, rpc: &Rpc) -> Result<(), AllocError>
     ensures { OnOk result (list.new.items ≡ list.old.items ++ bytes_sent scene rpc.now) }
 {

@@ -9,7 +9,7 @@ pub struct Span {
     pub highest: i128,
 }
 
-/// A span with one value more.
+/// A span with one more value.
 pub(crate) fn widened(span: &Option<Span>, value: &i128) -> Option<Span>
     ensures { result ≡ widened span.now value.now }
 {

@@ -17,14 +17,14 @@ use gs_plan::Plan;
 use std::alloc::{AllocError, Global};
 use std::collections::BTreeMap;
 
-/// The tables of a run while its happenings are noted: a row for each peer and each round by number, for each peer that
-/// sends and each that hears, and for each topic.
+/// The tables of a run while its happenings are noted. They have a row for each peer, each round, each pair of a sender and
+/// a hearer, and each topic. Peers and rounds are by number.
 #[derive(Drop)]
 pub(crate) struct Tables {
     round_ms: u64,
     pub peers: Vec<Counts>,
     pub rounds: Vec<Counts>,
-    /// The sizes of the smallest and the largest mesh when peers ended each round.
+    /// The sizes of the smallest and the largest mesh when the peers ended each round.
     pub spans: Vec<Option<Span>>,
     pub links: Vec<Vec<Counts>>,
     pub topics: BTreeMap<Topic, Counts>,
@@ -32,7 +32,7 @@ pub(crate) struct Tables {
 }
 
 impl Tables {
-    /// Of a run in which nothing happened.
+    /// The tables of a run in which nothing happened.
     pub(crate) fn new(alloc: Global, plan: &Plan) -> Result<Tables, AllocError>
         requires { IsInRange plan.now }
         ensures { IfOk result (λ tables. Shows plan.now tables [] []) }
@@ -95,7 +95,7 @@ fn round_at(round_ms: u64, at: Millis) -> usize
     (at.0 / round_ms.max(1)) as usize
 }
 
-/// The peer from which the link goes that it concerns, and the one that it leads to.
+/// The two ends of the link that it concerns: the peer that the link comes from, and the peer that it leads to.
 fn link_of(happening: &Happening) -> Option<(PeerNo, PeerNo)>
     ensures { result ≡ link_of happening.now }
 {
@@ -132,7 +132,7 @@ fn add_in(rows: &mut Vec<Vec<Counts>>, from: usize, to: usize, kind: Kind, amoun
     }
 }
 
-/// Adds to the row of a topic, if it is on one.
+/// Adds to the row of a topic, if there is a topic.
 fn add_on(
     rows: &mut BTreeMap<Topic, Counts>,
     topic: &Option<Topic>,
@@ -171,7 +171,7 @@ fn add_on_topic(
     }
 }
 
-/// A row with something of a kind.
+/// A row with only this amount of a kind.
 fn first_row(kind: Kind, amount: u64) -> Counts
     ensures { result ≡ counted no_counts kind amount }
 {
@@ -189,7 +189,7 @@ fn widen_at(spans: &mut Vec<Option<Span>>, place: usize, size: u64)
     }
 }
 
-/// As many rows, in which nothing stands.
+/// This many empty rows.
 fn rows(alloc: Global, count: usize) -> Result<Vec<Counts>, AllocError>
     ensures { IfOk result (λ rows. rows.items ≡ empty_rows count) }
 {
@@ -200,7 +200,7 @@ fn rows(alloc: Global, count: usize) -> Result<Vec<Counts>, AllocError>
     Ok(rows)
 }
 
-/// As many lists of as many rows.
+/// This many lists of this many empty rows.
 fn rows_of_rows(alloc: Global, count: usize) -> Result<Vec<Vec<Counts>>, AllocError>
     ensures { IfOk result (λ rows. grid rows ≡ empty_grid count) }
 {

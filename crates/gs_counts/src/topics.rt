@@ -9,7 +9,7 @@ use gs_plan::Act;
 use gs_rules::Event;
 use std::alloc::AllocError;
 
-/// Notes what an event changes of the topics that a peer is subscribed to.
+/// Notes how an event changes the topics that a peer is subscribed to.
 pub(crate) fn note(topics: &mut Vec<Topic>, event: &Event) -> Result<(), AllocError>
     ensures { OnOk result (topics.new.items ≡ subscribed_after event.now topics.old.items) }
 {

@@ -35,7 +35,7 @@ use gs_rules::{Event, Fallen, StoredEntry};
 use gs_seats::{follower_of, neighbours_of};
 use std::alloc::{AllocError, Global};
 
-/// A peer whose trace is read: what is known of it, and what goes out to its neighbours.
+/// A peer whose trace is read: what is known about it, and what goes out to its neighbours.
 #[derive(Drop)]
 struct Notes {
     peer: PeerNo,
@@ -43,7 +43,7 @@ struct Notes {
     lanes: Vec<Lane>,
 }
 
-/// Notes all that happened at a peer.
+/// Notes everything that happened at a peer.
 pub(crate) fn note_peer(
     alloc: Global,
     plan: &Plan,
@@ -81,7 +81,7 @@ fn note_trace(
     note_rest(tables, list, &mut notes, &mut follower)
 }
 
-/// Notes what the entries say that are left of a trace.
+/// Notes what the remaining entries of a trace say.
 fn note_rest(
     tables: &mut Tables,
     list: &mut Vec<Happening>,
@@ -147,7 +147,7 @@ fn note_meshes(tables: &mut Tables, members: &[(Topic, PeerNo)], topics: &[Topic
     }
 }
 
-/// Whether an event ends a round. Each event is named, so that a new one is decided on.
+/// Whether an event ends a round. Each event is named, so that a new one must be decided on.
 fn ends_round(event: &Event) -> bool
     ensures { result ≡ of_round_end (λ r. true) false event.now }
 {
@@ -166,7 +166,7 @@ fn ends_round(event: &Event) -> bool
 }
 
 impl Notes {
-    /// Before its first entry.
+    /// What is known before the first entry.
     fn new(alloc: Global, plan: &Plan, peer: PeerNo) -> Result<Notes, AllocError>
         requires { IsInRange plan.now }
         ensures { IfOk result (λ notes. IsNoted plan.now peer notes []) }
@@ -179,7 +179,7 @@ impl Notes {
         })
     }
 
-    /// Lists what happens at an entry at which this came to nothing, and reads it.
+    /// Lists what happens at an entry at which this came to nothing, and notes what the entry says.
     fn list_entry(
         &mut self,
         list: &mut Vec<Happening>,
@@ -201,7 +201,7 @@ impl Notes {
     }
 }
 
-/// Lists what happens at an entry, but for what goes out over links.
+/// Lists what happens at an entry, except what goes out over links.
 fn list_done(
     list: &mut Vec<Happening>,
     memory: &Memory,

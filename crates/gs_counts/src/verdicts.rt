@@ -1,4 +1,4 @@
-//! Which messages a peer ignored when it saw them last.
+//! Which messages a peer ignored when it last saw them.
 ghost use Rattle.std.specs.Prelude.{◌≡◌, OnOk, false, if◌then◌else◌, true};
 ghost use Rattle.gs_base.specs.Names.{same_id};
 ghost use Rattle.gs_base.specs.declared.names.MsgId.{MsgId as MsgIdValue};
@@ -9,7 +9,7 @@ use gs_base::{Mark, MsgId, Verdict};
 use indexmap::IndexMap;
 use std::alloc::{AllocError, Global};
 
-/// The messages that a peer ever ignored, each with whether it did so when it saw it last.
+/// The messages that a peer ever ignored. For each it says whether the peer ignored it when it last saw it.
 #[derive(Drop)]
 pub(crate) struct Verdicts {
     ignored: IndexMap<MsgId, bool>,
@@ -24,14 +24,14 @@ impl Verdicts {
         }
     }
 
-    /// Whether none was ever ignored.
+    /// Whether no message was ever ignored.
     pub(crate) fn is_empty(&self) -> bool
         ensures { result ≡ true → (id : MsgIdValue) → was_ignored self.now id ≡ false }
     {
         self.ignored.is_empty()
     }
 
-    /// Whether it was ignored when it was seen last.
+    /// Whether the message was ignored when it was last seen.
     pub(crate) fn was_ignored(&self, id: &MsgId) -> bool
         ensures { result ≡ was_ignored self.now id.now }
     {
@@ -52,7 +52,7 @@ impl Verdicts {
         Ok(())
     }
 
-    /// Notes what a mark says. Each mark is named, so that a new one is decided on.
+    /// Notes what a mark says. Each mark is named, so that a new one must be decided on.
     fn note_mark(&mut self, mark: &Mark) -> Result<(), AllocError>
         ensures { OnOk result ((id : MsgIdValue) → was_ignored self.new id
             ≡ ignored_by id mark.now (was_ignored self.old id)) }
@@ -77,7 +77,7 @@ impl Verdicts {
         }
     }
 
-    /// Notes that a message was seen. One that was never ignored is kept only where it is now.
+    /// Notes that a message was seen. A message that was never ignored is kept only if it is ignored now.
     fn see(&mut self, id: &MsgId, is_ignored: bool) -> Result<(), AllocError>
         ensures { OnOk result ((other : MsgIdValue) → was_ignored self.new other
             ≡ (if same_id id.now other then is_ignored else was_ignored self.old other)) }

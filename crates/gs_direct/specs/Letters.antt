@@ -1,4 +1,4 @@
--- What a letter has its receiver do.
+-- What a letter makes its receiver do.
 use Rattle.std.specs.Prelude.{List, [], ◌∷◌, ◌++◌, map, Option, None, Some}
 use Rattle.std.specs.List.{flat_map, AllByRecursion}
 use Rattle.gs_base.specs.declared.names.PeerNo.{PeerNo}
@@ -8,13 +8,13 @@ use Rattle.gs_direct.specs.declared.letter.Letter.{Letter}
 use Rattle.gs_direct.specs.declared.letter.Ending.{Ending}
 use Rattle.gs_direct.specs.declared.letter.Ending.TheVariants.{Fault, Gone}
 
--- how hearing a neighbour ends
+-- what the receiver does at an ending
 abbrev pub ending_heard : PeerNo → Option Ending → List Todo
 ending_heard q None = []
 ending_heard q (Some Fault) = HearFault q ∷ []
 ending_heard q (Some Gone) = HearGone q ∷ []
 
--- its RPCs are heard in order, and then how it ends
+-- the receiver hears its RPCs in order, and then its ending
 abbrev pub heard_of : Letter → List Todo
 heard_of letter = map (Hear letter.from) letter.rpcs.items ++ ending_heard letter.from letter.ending
 

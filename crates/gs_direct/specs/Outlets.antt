@@ -1,4 +1,4 @@
--- What an outlet knows of what goes to a neighbour, and what it hands over at the end of a round.
+-- What an outlet knows about what goes to a neighbour, and what it hands over at the end of a round.
 use Rattle.std.specs.Prelude.{◌≡◌, ◌<◌, ℕ, Bool, true, false, ◌||◌, ◌&&◌, nat_eq, if◌then◌else◌, List, [], ◌∷◌, ◌++◌, length, reverse, Option, None, Some, IfSome, is_none, is_some, unwrap_or}
 use Rattle.std.specs.List.{flat_map, AllByRecursion, AllZip}
 use Rattle.gs_base.specs.declared.names.PeerNo.{PeerNo}
@@ -19,7 +19,7 @@ use Rattle.gs_direct.specs.declared.outlet.Outlet.{Outlet}
 
 -- ---- what is written
 
--- it fits a frame, and its body is written in memory
+-- it fits a frame, and its values are in memory
 abbrev pub IsWritten : Rpc → Type 0
 IsWritten rpc = (codec.fits rpc ≡ true) × IsInMemory rpc
 
@@ -31,25 +31,25 @@ AllWritten entries = AllByRecursion (λ (e : Entry). SendsWritten e.effects.send
 
 -- ---- the bytes of a link
 
--- What is held of what goes over the link. Until bytes are put there as they are, all frames are whole, and nothing is held.
+-- What is held of what goes over the link. Until raw bytes are put there, all frames are whole, and nothing is held.
 abbrev pub reader_of : Outlet → Holding
 reader_of o = unwrap_or o.reader (record { limit = longest_body; held = Some [] })
 
--- The outlet is as what goes to the neighbour says: that RPC is gathered, and of all bytes that are said these RPCs were read
--- before this round, and then those of this round.
+-- The outlet agrees with what goes to the neighbour. It has gathered the same RPC. In all bytes that were said, its reader
+-- found the earlier RPCs before this round, and then the outlet's RPCs in this round.
 pub record Carries (o : Outlet) (goes : Outgoing) (earlier : List Rpc) : Type 0 where
   pub gathers : o.gathered ≡ goes.gathered
   pub written : IfSome goes.gathered IsWritten
   pub read : HasRead longest_body (bytes_of goes.said) (reader_of o) (earlier ++ o.rpcs.items)
 
--- What goes to the neighbour becomes this, and the outlet goes along.
+-- What goes to the neighbour becomes this, and the outlet changes with it.
 pub record Follows (f : Outgoing → Outgoing) (old new : Outlet) : Type 0 where
   pub to : new.to ≡ old.to
   pub is_over : new.is_over ≡ old.is_over
   pub is_open : new.is_open ≡ old.is_open
   pub carries : (goes : Outgoing) (earlier : List Rpc) → Carries old goes earlier → Carries new (f goes) earlier
 
--- One to this neighbour, to which nothing was said.
+-- An outlet to this neighbour, to which nothing was said.
 pub record IsNew (to : PeerNo) (o : Outlet) : Type 0 where
   pub to_is : o.to ≡ to
   pub is_open : o.is_open ≡ true
@@ -58,11 +58,11 @@ pub record IsNew (to : PeerNo) (o : Outlet) : Type 0 where
   pub rpcs : o.rpcs.items ≡ []
   pub is_over : o.is_over ≡ false
 
--- bytes are read on, and what is whole then is added
+-- the bytes are read next, and the RPCs that are whole after that are added
 abbrev pub ReadsOn : Holding → List ℕ → Holding → List Rpc → List Rpc → Type 0
 ReadsOn old bytes new before after = (found : List Rpc) × FeedsOnce old bytes new found × (after ≡ before ++ found)
 
--- What is gathered goes out and the outlet is closed, where the neighbour is lost; else nothing changes.
+-- Where the neighbour is lost, what is gathered goes out and the outlet is closed. Otherwise nothing changes.
 pub record Closes (is_lost : Bool) (old new : Outlet) : Type 0 where
   pub to : new.to ≡ old.to
   pub is_over : new.is_over ≡ old.is_over
@@ -71,7 +71,7 @@ pub record Closes (is_lost : Bool) (old new : Outlet) : Type 0 where
       → Carries old goes earlier
       → Carries new (if is_lost then saying (cut_out codec goes) (Close ∷ []) else goes) earlier
 
--- What an event says is said.
+-- The neighbour is sent what an event says.
 pub record Tells (event : Event) (old new : Outlet) : Type 0 where
   pub to : new.to ≡ old.to
   pub is_over : new.is_over ≡ old.is_over
@@ -81,7 +81,7 @@ pub record Tells (event : Event) (old new : Outlet) : Type 0 where
 
 -- ---- entries
 
--- what goes to the neighbour after an entry: nothing more where it is closed
+-- what goes to the neighbour after an entry; nothing more where the outlet is closed
 abbrev pub goes_after : Outlet → Entry → Outgoing → Outgoing
 goes_after o e goes = if o.is_open then behind_entry codec o.to goes e else goes
 
@@ -93,7 +93,7 @@ pub record Says (e : Entry) (old new : Outlet) : Type 0 where
   pub carries : (goes : Outgoing) (earlier : List Rpc)
       → Carries old goes earlier → Carries new (goes_after old e goes) earlier
 
--- The neighbour is sent what these entries say, the first one first, after any trace.
+-- The neighbour is sent what these entries say, the first entry first, after any trace.
 pub record SaysAll (entries : List Entry) (old new : Outlet) : Type 0 where
   pub to : new.to ≡ old.to
   pub is_over : new.is_over ≡ old.is_over
@@ -103,7 +103,7 @@ pub record SaysAll (entries : List Entry) (old new : Outlet) : Type 0 where
       → Carries old (outgoing codec K old.to) earlier
       → Carries new (outgoing codec (reverse entries ++ K) old.to) earlier
 
--- it says nothing to anybody
+-- it says nothing to any neighbour
 pub record IsSilent (e : Entry) : Type 0 where
   pub sends : e.effects.sends ≡ []
   pub cuts : (q : PeerNo) → is_cut q e.event ≡ false
@@ -116,8 +116,8 @@ SaysSince told L old new =
 
 -- ---- the end of a round
 
--- How what is said ends, where that is not sent yet. Bytes that spell no RPC are a fault, and so is a close within a
--- frame.
+-- How the peer's side of the link ends, where the ending is not sent yet. Bytes that spell no RPC are a fault, and so is a
+-- close within a frame.
 abbrev pub ending_of : Outlet → Option Ending
 ending_of o =
     if o.is_over then None
@@ -126,7 +126,7 @@ ending_of o =
     else if nat_eq (length (unwrap_or (reader_of o).held [])) 0 then Some Gone
     else Some Fault
 
--- the letter of a round: none where there is nothing to say
+-- the letter of a round, and none where there is nothing to say
 abbrev pub letters_of : PeerNo → Outlet → List Letter
 letters_of from o =
     if nat_eq (length o.rpcs.items) 0 && is_none (ending_of o) then []
@@ -141,10 +141,10 @@ pub record IsHandedOver (old new : Outlet) : Type 0 where
   pub rpcs : new.rpcs.items ≡ []
   pub is_over : new.is_over ≡ (old.is_over || is_some (ending_of old))
 
--- what goes to a peer from all outlets
+-- what all outlets give to a peer
 abbrev pub given : PeerNo → List Outlet → PeerNo → List Letter
 given from outlets p = flat_map (λ (o : Outlet). if same_peer o.to p then letters_of from o else []) outlets
 
--- it is to one of `count` peers
+-- its neighbour is one of `count` peers
 abbrev pub Within : ℕ → Outlet → Type 0
 Within count o = o.to.0 < count

@@ -29,8 +29,8 @@ pub record IsNewPeer (plan : Plan) (p : PeerNo) (peer : Peer) : Type 0 where
   pub refused : peer.refused.items ≡ []
   pub outlets : AllZip IsNew (neighbours plan p) peer.outlets.items
 
--- It hears these letters and does what else there is to do in the round. Some lines are refused, and its neighbours are
--- sent what its trace says since.
+-- It hears these letters and does everything else that it has to do in the round. Some lines are refused. Its neighbours are
+-- sent what was added to its trace.
 pub record PlaysRound (r : ℕ) (now : Millis) (letters : List Letter) (old new : Peer) : Type 0 where
   pub number : new.number ≡ old.number
   pub agenda : new.agenda ≡ old.agenda
@@ -53,7 +53,7 @@ pub record Closes (now : Millis) (letters : List Letter) (old new : Peer) : Type
       old.router old.words new.router new.words []
   pub rest : new ≡ record old { router = new.router; words = new.words }
 
--- what is left of it, with scores of this moment
+-- what a run leaves of the peer, with the scores at this moment
 abbrev pub left_of : Millis → Peer → Finished
 left_of now peer = record {
   trace = peer.router.trace;

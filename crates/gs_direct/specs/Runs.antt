@@ -1,4 +1,4 @@
--- How the peers of a run stand between two rounds, and what is on its way to each.
+-- The states of the peers of a run between two rounds, and what is on its way to each.
 use Rattle.std.specs.Prelude.{◌≡◌, ◌≤◌, ◌<◌, ◌⊎◌, ◌*◌, ℕ, zero, suc, pred, Bool, true, false, List, [], ◌++◌, length, map, option_map, unwrap_or, slice_get, None, Some, Vec}
 use Rattle.std.specs.List.{AllByRecursion, AllZip}
 use Rattle.std.specs.declared.alloc.Global.{Global}
@@ -33,15 +33,15 @@ use Rattle.gs_direct.specs.Peers.{Closes, PlaysRound, left_of}
 
 -- ---- what was said
 
--- the trace of a peer so far: of a number that is no peer's, the empty one
+-- the trace of a peer so far; it is empty where no peer has the number
 abbrev pub trace_at : List Peer → PeerNo → Entries
 trace_at peers q = unwrap_or (option_map (λ (peer : Peer). peer.router.trace) (slice_get peers q.0)) []
 
--- what is said to p so far
+-- what q has said to p so far
 abbrev pub said_so_far : List Peer → PeerNo → PeerNo → Said
 said_so_far peers p q = out codec (trace_at peers q) p
 
--- what there is to hear of this word ends in one of the first r rounds: in a fault, or by a close
+-- what is said ends in a round up to r: in a fault, or by a close
 pub record HasEnded (r : ℕ) (w : Said) : Type 0 where
   pub round : ℕ
   pub early : round ≤ r
@@ -64,7 +64,7 @@ pub record IsReady (r : ℕ) (L : Entries) (o : Outlet) : Type 0 where
 
 -- ---- a peer
 
--- After r rounds a peer has kept them, on what the others said so far, by its words.
+-- After r rounds, a peer has kept them on what the others said so far, with its random words.
 pub record IsAt (plan : Plan) (r : ℕ) (peers : List Peer) (p : PeerNo) (peer : Peer) : Type 0 where
   pub number : peer.number ≡ p
   pub agenda : peer.agenda ≡ lines_in plan p
@@ -78,8 +78,8 @@ pub record IsAt (plan : Plan) (r : ℕ) (peers : List Peer) (p : PeerNo) (peer :
 
 -- ---- what is on its way
 
--- These letters of q say what there is to hear of its round r, where it says this. An ending that was sent before is
--- not sent again.
+-- These letters of q have what there is to hear of its round r, where q has said `w`. An ending that was sent before is not
+-- sent again.
 pub record Delivers (r : ℕ) (w : Said) (q : PeerNo) (letters : List Letter) : Type 0 where
   pub inbound : Inbound
   pub comes : ComesIn (suc r) w inbound
@@ -88,12 +88,12 @@ pub record Delivers (r : ℕ) (w : Said) (q : PeerNo) (letters : List Letter) : 
       ⊎ ((all_heard letters ≡ map (Hear q) inbound.rpcs) × HasEnded r w)
   pub fit : LettersFit letters
 
--- whoever is no neighbour has no letter
+-- a peer that is no neighbour sends no letter
 abbrev pub DeliversIf : Bool → ℕ → Said → PeerNo → List Letter → Type 0
 DeliversIf true r w q letters = Delivers r w q letters
 DeliversIf false r w q letters = letters ≡ []
 
--- the letters for p of the given number of first peers, one peer after the other
+-- the letters for p from this number of first peers, one peer after the other
 abbrev pub ArriveFrom : List Dial → ℕ → List Peer → PeerNo → ℕ → List Letter → Type 0
 ArriveFrom dials r peers p zero letters = letters ≡ []
 ArriveFrom dials r peers p (suc n) letters =
@@ -102,7 +102,7 @@ ArriveFrom dials r peers p (suc n) letters =
     × (letters ≡ before ++ last)
     × DeliversIf (are_joined dials p (peer_no n)) r (said_so_far peers p (peer_no n)) (peer_no n) last
 
--- the letters for a peer that are heard in a round: in the first one there are none
+-- the letters that a peer hears in a round; there are none in the first
 abbrev pub Arrive : Plan → ℕ → List Peer → PeerNo → List Letter → Type 0
 Arrive plan zero peers p letters = letters ≡ []
 Arrive plan (suc r) peers p letters = ArriveFrom plan.dials r peers p (length plan.peers) letters
@@ -111,11 +111,11 @@ Arrive plan (suc r) peers p letters = ArriveFrom plan.dials r peers p (length pl
 abbrev pub IsEmpty : List (Vec Letter Global) → Type 0
 IsEmpty mail = (n : ℕ) → list_at mail n ≡ []
 
--- there is a list for each peer, and nothing in it
+-- there is an empty list for each peer
 abbrev pub IsRoomFor : Plan → List (Vec Letter Global) → Type 0
 IsRoomFor plan mail = (length mail ≡ length plan.peers) × IsEmpty mail
 
--- ---- all of them
+-- ---- all peers
 
 -- After r rounds the peers are these, and the letters of the last one are on their way.
 pub record AreAt (plan : Plan) (r : ℕ) (peers : List Peer) (mail : List (Vec Letter Global)) : Type 0 where
@@ -125,7 +125,7 @@ pub record AreAt (plan : Plan) (r : ℕ) (peers : List Peer) (mail : List (Vec L
 
 -- ---- within a round
 
--- A peer plays a round and hands over what it said: this to each peer.
+-- A peer plays a round and hands over what it said: these letters to each peer.
 pub record Turns (r : ℕ) (now : Millis) (letters : List Letter) (old new : Peer) (gives : PeerNo → List Letter) : Type 0 where
   pub played : Peer
   pub plays : PlaysRound r now letters old played
@@ -133,7 +133,7 @@ pub record Turns (r : ℕ) (now : Millis) (letters : List Letter) (old new : Pee
   pub given_is : (p : PeerNo) → gives p ≡ given played.number played.outlets.items p
   pub handed : AllZip IsHandedOver played.outlets.items new.outlets.items
 
--- so did the peer of this number
+-- the peer of this number has done that
 pub record TurnsAt (r : ℕ) (now : Millis) (olds news : List Peer) (mail : List (Vec Letter Global))
     (n : ℕ) (gives : PeerNo → List Letter) : Type 0 where
   pub old : Peer
@@ -142,7 +142,7 @@ pub record TurnsAt (r : ℕ) (now : Millis) (olds news : List Peer) (mail : List
   pub is : slice_get news n ≡ Some new
   pub turns : Turns r now (list_at mail n) old new gives
 
--- so did the given number of first peers, and this is what they gave to p
+-- this number of first peers have done that, and these are the letters that they gave to p
 abbrev pub GivenTo : ℕ → Millis → (olds news : List Peer) → List (Vec Letter Global)
     → PeerNo → ℕ → List Letter → Type 0
 GivenTo r now olds news mail p zero letters = letters ≡ []
@@ -181,6 +181,6 @@ pub record HaveClosed (now : Millis) (olds : List Peer) (mail : List (Vec Letter
   pub left : (k : ℕ) → n ≤ k → slice_get news k ≡ slice_get olds k
   pub done : (k : ℕ) → k < n → ClosesAt now olds mail k news
 
--- what is left of a peer at the end of a run, with its number
+-- what a run leaves of a peer, with its number
 abbrev pub numbered : Plan → Peer → PeerNo × Finished
 numbered plan peer = (peer.number, left_of (record { 0 = plan.rounds * plan.round_ms }) peer)

@@ -13,10 +13,10 @@ pub enum Ending {
 /// What a peer says to a neighbour in one round.
 #[derive(Drop)]
 pub struct Letter {
-    /// Whose it is.
+    /// The peer that it comes from.
     pub from: PeerNo,
     /// The RPCs, in order.
     pub rpcs: Vec<Shared<Rpc>>,
-    /// How it ends, where it does.
+    /// How the sender's side of the link ends, where it does.
     pub ending: Option<Ending>,
 }

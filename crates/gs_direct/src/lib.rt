@@ -1,5 +1,5 @@
-//! A run of peers on one thread, without links: what a peer says in a round is handed to its neighbours as RPCs. Nobody
-//! waits for anybody, so a run ends.
+//! A run of peers on one thread, without links. What a peer says in a round is handed to its neighbours as RPCs. No peer
+//! waits for another, so a run ends.
 #![tactic(auto)]
 
 mod letter;

@@ -1,4 +1,4 @@
-//! What reads a link on which bytes are put as they are.
+//! The reader of a link on which raw bytes are put.
 ghost use Rattle.std.specs.Prelude.{◌≡◌, ◌++◌, [], Some, OnOk, is_none, length, unwrap_or};
 ghost use Rattle.gs_wire.specs.Messages.{frame, longest_body};
 ghost use Rattle.gs_wire.specs.Stream.{FeedsOnce};
@@ -9,7 +9,8 @@ use gs_wire::{FrameReader, MAX_BODY, WireFault, encode_frame};
 use std::alloc::{AllocError, Global};
 use std::marker::Model;
 
-/// Reads all that goes over a link as frames. Contracts see what is held of an unfinished frame; after a fault that is nothing.
+/// Reads everything that goes over a link as frames. Contracts see what it holds of an unfinished frame, which is nothing
+/// after a fault.
 #[derive(Drop)]
 pub struct LinkReader {
     reader: FrameReader,
@@ -28,7 +29,7 @@ impl Model for LinkReader {
 }
 
 impl LinkReader {
-    /// One that has read nothing. It takes no memory.
+    /// Returns a reader that has read nothing. It takes no memory.
     pub fn new(alloc: Global) -> LinkReader
         ensures { result ≡ record { limit = longest_body; held = Some [] } }
     {
@@ -38,24 +39,24 @@ impl LinkReader {
         }
     }
 
-    /// Whether the bytes spelled no RPC somewhere.
+    /// Says whether some of the bytes spelled no RPC.
     pub fn has_failed(&self) -> bool
         ensures { result ≡ is_none self.now.held }
     {
         self.has_failed
     }
 
-    /// How many bytes are held of an unfinished frame.
+    /// Returns how many bytes it holds of an unfinished frame.
     pub fn pending(&self) -> usize
         ensures { result ≡ length (unwrap_or self.now.held []) }
     {
         self.reader.pending()
     }
 
-    /// Reads an RPC as it goes over the link, and adds the RPCs that are whole then.
+    /// Reads an RPC as it goes over the link, and adds the RPCs that are whole after that.
     ///
     /// # Errors
-    /// `AllocError` where there was no memory for it.
+    /// `AllocError` when out of memory.
     pub fn read_frame(
         &mut self,
         alloc: Global,
@@ -71,10 +72,10 @@ impl LinkReader {
         }
     }
 
-    /// Reads bytes of the link, and adds the RPCs that are whole then. After a fault none are.
+    /// Reads bytes of the link, and adds the RPCs that are whole after that. After a fault it adds none.
     ///
     /// # Errors
-    /// `AllocError` where there was no memory for it.
+    /// `AllocError` when out of memory.
     pub fn read(
         &mut self,
         alloc: Global,

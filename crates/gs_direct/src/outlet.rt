@@ -1,4 +1,4 @@
-//! What goes from a peer to one neighbour.
+//! What a peer sends to one neighbour.
 ghost use Rattle.std.specs.Prelude.{◌≡◌, [], None, true, map, OnOk, if◌then◌else◌, option_to_list};
 ghost use Rattle.gs_base.specs.Names.{same_peer};
 ghost use Rattle.gs_base.specs.Tokens.{Byte};
@@ -18,17 +18,17 @@ use gs_wire::GatheredRpcs;
 use std::alloc::{AllocError, Global};
 use std::mem;
 
-/// What goes to one neighbour. RPCs go as values, which are shared. From the first bytes on that are put on the link as they
-/// are, all goes through a reader of frames, since those may begin within a frame.
+/// What a peer sends to one neighbour. RPCs go as shared values. Once raw bytes are put on the link, everything goes through
+/// a reader of frames, since those bytes may begin within a frame.
 #[derive(Drop)]
 pub struct Outlet {
     /// The neighbour.
     pub to: PeerNo,
-    /// Whether more may be said to it.
+    /// Whether more may be sent to it.
     pub is_open: bool,
-    /// What is sent and not yet out.
+    /// What is gathered and not yet out.
     pub gathered: GatheredRpcs,
-    /// What reads the bytes of the link, where some were put there as they are.
+    /// What reads the bytes of the link, where raw bytes were put on it.
     pub reader: Option<LinkReader>,
     /// The RPCs that are out in this round, in order.
     pub rpcs: Vec<Shared<Rpc>>,
@@ -37,7 +37,7 @@ pub struct Outlet {
 }
 
 impl Outlet {
-    /// One to a neighbour to which nothing was said. It takes no memory.
+    /// Returns an outlet to a neighbour to which nothing was said. It takes no memory.
     pub fn new(alloc: Global, to: PeerNo) -> Outlet
         ensures { IsNew to result }
     {
@@ -51,10 +51,10 @@ impl Outlet {
         }
     }
 
-    /// Says to the neighbour what an entry says.
+    /// Sends the neighbour what an entry says.
     ///
     /// # Errors
-    /// `AllocError` where there was no memory for it.
+    /// `AllocError` when out of memory.
     pub fn tell(&mut self, alloc: Global, entry: &StoredEntry) -> Result<(), AllocError>
         requires { SendsWritten entry.now.effects.sends }
         ensures { OnOk result (Says entry.now self.old self.new) }
@@ -80,7 +80,7 @@ impl Outlet {
         Ok(())
     }
 
-    /// Gathers an RPC. Where it does not fit a frame with what is gathered, that goes out first.
+    /// Gathers an RPC. Where it does not fit a frame together with what is gathered, the gathered RPC goes out first.
     fn send(&mut self, alloc: Global, rpc: &Shared<Rpc>) -> Result<(), AllocError>
         requires { IsWritten rpc.now }
         ensures { OnOk result (Follows (λ goes. sending codec goes rpc.now) self.old self.new) }
@@ -110,7 +110,7 @@ impl Outlet {
         }
     }
 
-    /// Says what an event says, where more may be said to the neighbour.
+    /// Sends what an event says, where more may be sent to the neighbour.
     fn tell_event(&mut self, alloc: Global, event: &Event) -> Result<(), AllocError>
         requires { self.old.is_open ≡ true }
         ensures { OnOk result (Tells event.now self.old self.new) }
@@ -129,7 +129,7 @@ impl Outlet {
         }
     }
 
-    /// Says what an act of the peer's own user says, where more may be said to the neighbour.
+    /// Sends what an act of the peer's own user says, where more may be sent to the neighbour.
     fn tell_act(&mut self, alloc: Global, act: &Act) -> Result<(), AllocError>
         requires { self.old.is_open ≡ true }
         ensures { OnOk result (Tells (Own act.now) self.old self.new) }
@@ -143,7 +143,7 @@ impl Outlet {
         }
     }
 
-    /// Puts bytes on the link as they are, where they are for the neighbour.
+    /// Puts raw bytes on the link unchanged, where they are for the neighbour.
     fn put_raw(&mut self, alloc: Global, to: PeerNo, bytes: &Bytes) -> Result<(), AllocError>
         ensures { OnOk result (Follows (λ goes.
             if same_peer to self.old.to then saying (cut_out codec goes) (map Byte bytes.now) else goes) self.old self.new) }
@@ -171,7 +171,7 @@ impl Outlet {
         }
     }
 
-    /// Says nothing more to the neighbour, where it is the one that is lost.
+    /// Sends the neighbour nothing more, where it is the one that is lost.
     fn close_lost(&mut self, alloc: Global, lost: PeerNo) -> Result<(), AllocError>
         requires { self.old.is_open ≡ true }
         ensures { OnOk result (Closes (same_peer lost self.old.to) self.old self.new) }
@@ -182,7 +182,7 @@ impl Outlet {
         self.close(alloc)
     }
 
-    /// Says nothing more to the neighbour but what is gathered, and the close.
+    /// Sends the neighbour only what is gathered, and then the close.
     fn close(&mut self, alloc: Global) -> Result<(), AllocError>
         ensures { OnOk result (Closes true self.old self.new) }
     {
@@ -191,8 +191,8 @@ impl Outlet {
         Ok(())
     }
 
-    /// How what is said ends, where the neighbour was not sent the ending yet. Bytes that spell no RPC are a fault, and
-    /// so is a close within a frame.
+    /// Returns how the peer's side of the link ends, where the neighbour was not sent the ending yet. Bytes that spell no
+    /// RPC are a fault, and so is a close within a frame.
     fn ending(&self) -> Option<Ending>
         ensures { result ≡ ending_of self.now }
     {
@@ -207,7 +207,7 @@ impl Outlet {
         }
     }
 
-    /// The letter of a round from this peer, if there is anything to say. The next round begins with none.
+    /// Returns the letter of a round from this peer, if there is anything to say. The next round begins with none.
     pub fn hand_over(&mut self, alloc: Global, from: PeerNo) -> Option<Letter>
         ensures letter { option_to_list result ≡ letters_of from self.old }
         ensures handed { IsHandedOver self.old self.new }

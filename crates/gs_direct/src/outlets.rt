@@ -1,4 +1,4 @@
-//! What goes from a peer to its neighbours.
+//! What a peer sends to its neighbours.
 ghost use Rattle.std.specs.Prelude.{◌≡◌, ◌≤◌, ◌++◌, false, true, OnOk, IfOk, length};
 ghost use Rattle.std.specs.List.{AllByRecursion, AllZip};
 ghost use Rattle.gs_base.specs.declared.names.PeerNo.{PeerNo as PeerNoValue};
@@ -17,10 +17,10 @@ use gs_rules::{Event, StoredEntry};
 use gs_seats::put_last;
 use std::alloc::{AllocError, Global};
 
-/// An outlet to each of these neighbours. Nothing was said to them.
+/// Returns an outlet to each of these neighbours. Nothing was said to them.
 ///
 /// # Errors
-/// `AllocError` where there was no memory for them.
+/// `AllocError` when out of memory.
 pub fn outlets_of(alloc: Global, neighbours: &[Neighbour]) -> Result<Vec<Outlet>, AllocError>
     ensures { IfOk result (λ outlets. AllZip IsNew (peers_of neighbours.now) outlets.items) }
 {
@@ -31,10 +31,10 @@ pub fn outlets_of(alloc: Global, neighbours: &[Neighbour]) -> Result<Vec<Outlet>
     Ok(outlets)
 }
 
-/// Says to the neighbours what a router's trace says after its first `told` entries.
+/// Sends the neighbours what a router's trace says after its first `told` entries.
 ///
 /// # Errors
-/// `AllocError` where there was no memory for it.
+/// `AllocError` when out of memory.
 pub fn tell_since(
     alloc: Global,
     outlets: &mut [Outlet],
@@ -49,7 +49,7 @@ pub fn tell_since(
     Ok(())
 }
 
-/// Says to the neighbours what these entries say, the first one first.
+/// Sends the neighbours what these entries say, the first entry first.
 fn tell_all(
     alloc: Global,
     outlets: &mut [Outlet],
@@ -64,7 +64,7 @@ fn tell_all(
     Ok(())
 }
 
-/// Says to the neighbours what an entry says.
+/// Sends the neighbours what an entry says.
 fn tell(alloc: Global, outlets: &mut [Outlet], entry: &StoredEntry) -> Result<(), AllocError>
     requires { SendsWritten entry.now.effects.sends }
     ensures { OnOk result (AllZip (Says entry.now) outlets.old outlets.new) }
@@ -78,7 +78,7 @@ fn tell(alloc: Global, outlets: &mut [Outlet], entry: &StoredEntry) -> Result<()
     Ok(())
 }
 
-/// Whether an entry says nothing to anybody.
+/// Says whether an entry says nothing to any neighbour.
 fn is_silent(entry: &StoredEntry) -> bool
     ensures { result ≡ true → IsSilent entry.now }
 {
@@ -99,7 +99,7 @@ fn is_silent(entry: &StoredEntry) -> bool
     }
 }
 
-/// Whether an act of the peer's own user says nothing but what is sent for it.
+/// Says whether an act of the peer's own user says nothing except the RPCs that are sent for it.
 fn is_silent_act(act: &Act) -> bool
     ensures { result ≡ true → (q : PeerNoValue) → is_cut_by q act.now ≡ false }
 {
@@ -115,7 +115,7 @@ fn is_silent_act(act: &Act) -> bool
 /// Hands over to each neighbour what was said to it in a round.
 ///
 /// # Errors
-/// `AllocError` where there was no memory for it.
+/// `AllocError` when out of memory.
 pub fn hand_over(
     alloc: Global,
     outlets: &mut [Outlet],

@@ -32,7 +32,7 @@ pub struct Peer {
     /// Its lines of the script, by rounds.
     pub agenda: Agenda,
     pub router: Router,
-    /// What its router chooses by.
+    /// Its random words.
     pub words: SeededWords,
     /// The lines that it could not follow so far.
     pub refused: Vec<RefusedLine>,
@@ -41,10 +41,10 @@ pub struct Peer {
 }
 
 impl Peer {
-    /// A peer of a plan that has done nothing, with its lines of the script.
+    /// Returns a peer of a plan that has done nothing, with its lines of the script.
     ///
     /// # Errors
-    /// `AllocError` where there was no memory for it.
+    /// `AllocError` when out of memory.
     pub fn new(
         alloc: Global,
         plan: &Plan,
@@ -71,11 +71,11 @@ impl Peer {
         })
     }
 
-    /// Plays a round: hears what its neighbours said in the one before, follows its lines, lowers the counters of scores and
-    /// has a heartbeat, each if it is due, and ends the round.
+    /// Plays a round. The peer hears what its neighbours said in the round before, and follows its lines. It lowers the
+    /// counters of scores and has a heartbeat, each if it is due, and ends the round.
     ///
     /// # Errors
-    /// `AllocError` where there was no memory.
+    /// `AllocError` when out of memory.
     pub fn play(
         &mut self,
         alloc: Global,
@@ -104,7 +104,7 @@ impl Peer {
     /// Hands over to its neighbours what it said in the round.
     ///
     /// # Errors
-    /// `AllocError` where there was no memory.
+    /// `AllocError` when out of memory.
     pub fn hand_over(
         &mut self,
         alloc: Global,
@@ -117,10 +117,10 @@ impl Peer {
         hand_over(alloc, &mut self.outlets, self.number, mail)
     }
 
-    /// Shuts down after the last round, and hears what still comes.
+    /// Shuts down after the last round, and hears what is still on its way.
     ///
     /// # Errors
-    /// `AllocError` where there was no memory.
+    /// `AllocError` when out of memory.
     pub fn close(&mut self, now: Millis, letters: Vec<Letter>) -> Result<(), AllocError>
         requires running { IsRunning now self.old.router }
         requires fit { LettersFit letters.items }
@@ -145,10 +145,10 @@ impl Peer {
         Ok(())
     }
 
-    /// What is left of it.
+    /// Returns what the run leaves of the peer.
     ///
     /// # Errors
-    /// `AllocError` where there was no memory.
+    /// `AllocError` when out of memory.
     pub fn finish(self, now: Millis) -> Result<Finished, AllocError>
         requires { self.router.is_stopped ≡ false }
         ensures { IfOk result (λ life. life ≡ left_of now self) }

@@ -17,7 +17,7 @@ use gs_seats::{empty_lists, take_list};
 use std::alloc::{AllocError, Global};
 use std::mem;
 
-/// What is on its way between the peers of a run, and what all of them share.
+/// What is on its way between the peers of a run, and what they share.
 #[derive(Drop)]
 pub struct Post {
     alloc: Global,
@@ -30,10 +30,10 @@ pub struct Post {
 }
 
 impl Post {
-    /// With nothing on its way, for this many peers.
+    /// Returns a post for this many peers, with nothing on its way.
     ///
     /// # Errors
-    /// `AllocError` where there was no memory for it.
+    /// `AllocError` when out of memory.
     pub fn new(alloc: Global, peers: usize) -> Result<Post, AllocError>
         ensures mail { IfOk result (λ post. (length post.mail.items ≡ peers) × IsEmpty post.mail.items) }
         ensures next { IfOk result (λ post. (length post.next.items ≡ peers) × IsEmpty post.next.items) }
@@ -58,10 +58,10 @@ impl Post {
         take_list(self.alloc, &mut self.mail, to)
     }
 
-    /// Has a peer play a round, and takes on what it says in it.
+    /// Has a peer play a round, and keeps what it says in it for the next round.
     ///
     /// # Errors
-    /// `AllocError` where there was no memory.
+    /// `AllocError` when out of memory.
     pub fn play(
         &mut self,
         peer: &mut Peer,
@@ -90,7 +90,7 @@ impl Post {
         Ok(())
     }
 
-    /// The round is over: what was said in it is on its way.
+    /// Ends the round: from now on, what was said in it is on its way.
     pub fn turn(&mut self)
         ensures mail { self.new.mail ≡ self.old.next }
         ensures next { self.new.next ≡ self.old.mail }

@@ -17,12 +17,12 @@ use gs_report::{Finished, Report};
 use gs_seats::{NetFault, lines_by_peer, take_list};
 use std::alloc::{AllocError, Global};
 
-/// Runs the peers of a plan on this thread, without links: in each round one peer after the other hears what its neighbours
+/// Runs the peers of a plan on this thread, without links. In each round, one peer after the other hears what its neighbours
 /// said in the round before, and does what it has to do. It has no handle to wait for a thread, so the prover shows that it
 /// ends, and no clause says so. Each report of the plan has the text of this one (`a_plan_has_one_report`).
 ///
 /// # Errors
-/// `NoMemory`. It names no peer in it, and the clause leaves that open.
+/// `NoMemory` when out of memory. It names no peer, and the clause leaves that open.
 pub fn run_direct(alloc: Global, plan: &Plan) -> Result<Report, NetFault>
     requires { IsInRange plan.now }
     ensures report { IfOk result (IsReport plan.now) }
@@ -37,7 +37,7 @@ pub fn run_direct(alloc: Global, plan: &Plan) -> Result<Report, NetFault>
     }
 }
 
-/// What is left of each peer, by number.
+/// Runs the peers, and returns what the run leaves of each, by number.
 fn lives_of(alloc: Global, plan: &Plan) -> Result<Vec<(PeerNo, Finished)>, AllocError>
     requires { IsInRange plan.now }
     ensures numbers { IfOk result (λ lives. map (λ x. x.0) lives.items ≡ numbers plan.now) }
@@ -50,7 +50,7 @@ fn lives_of(alloc: Global, plan: &Plan) -> Result<Vec<(PeerNo, Finished)>, Alloc
     finish_all(alloc, plan, peers)
 }
 
-/// The peers of a plan, which have done nothing.
+/// Returns the peers of a plan, which have done nothing.
 fn peers_of(alloc: Global, plan: &Plan) -> Result<Vec<Peer>, AllocError>
     requires { IsInRange plan.now }
     ensures { IfOk result (λ peers. AllZip (IsNewPeer plan.now) (numbers plan.now) peers.items) }
@@ -66,7 +66,7 @@ fn peers_of(alloc: Global, plan: &Plan) -> Result<Vec<Peer>, AllocError>
     Ok(peers)
 }
 
-/// Plays all rounds. What was said in the last one is on its way then.
+/// Plays all rounds. After that, what was said in the last round is on its way.
 fn play_all(plan: &Plan, peers: &mut [Peer], post: &mut Post) -> Result<(), AllocError>
     requires range { IsInRange plan.now }
     requires begun { AreAt plan.now 0 peers.old post.old.mail.items }
@@ -103,7 +103,7 @@ fn play_round(
     Ok(())
 }
 
-/// Has all peers shut down, and hear what still comes.
+/// Shuts all peers down, and has them hear what is still on its way.
 fn close_all(plan: &Plan, peers: &mut [Peer], post: &mut Post) -> Result<(), AllocError>
     requires range { IsInRange plan.now }
     requires last { AreAt plan.now (suc plan.now.rounds) peers.old post.old.mail.items }
@@ -119,7 +119,7 @@ fn close_all(plan: &Plan, peers: &mut [Peer], post: &mut Post) -> Result<(), All
     Ok(())
 }
 
-/// What is left of the peers, each with its number.
+/// Returns what the run leaves of the peers, each with its number.
 fn finish_all(
     alloc: Global,
     plan: &Plan,

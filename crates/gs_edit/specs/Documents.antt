@@ -42,7 +42,7 @@ changed_at key change ms (Some held) = option_map (λ value. replace_member key 
 unfoldable pub changed_member : List ℕ → Change → Members → Option Members
 changed_member key change ms = changed_at key change ms (get_member key ms)
 
--- The change at the item with this number, which is there.
+-- The change at the item with this number. It is impossible where there is no such item.
 abbrev pub changed_in : ℕ → Change → Items → Option Data → Option Items
 changed_in n change ds None = None
 changed_in n change ds (Some held) = option_map (λ value. replace_item n value ds) (change held)
@@ -54,7 +54,7 @@ changed_numbered (Some n) change ds = changed_in n change ds (get_item n ds)
 unfoldable pub changed_item : List ℕ → Change → Items → Option Items
 changed_item part change ds = changed_numbered (number_of part) change ds
 
--- the change in a table at a key, or in a list at a number, and in nothing else
+-- the change in a table at a key, or in a list at a number; in anything else it is impossible
 abbrev pub changed_inside : List ℕ → Change → Data → Option Data
 changed_inside part change (table ms) = option_map table (changed_member part change ms)
 changed_inside part change (array ds) = option_map array (changed_item part change ds)
@@ -65,13 +65,13 @@ unfoldable pub with_path : List (List ℕ) → Data → Data → Option Data
 with_path [] value held = Some value
 with_path (part ∷ path) value held = changed_inside part (with_path path value) held
 
--- The members with a value set at the end of a path. A table that the path goes through is made where it is absent;
--- there are none where the path goes through what is neither a table nor an item of a list, and for no path.
+-- The members with a value set at the end of a path. A table that the path goes through is made where it is absent; the
+-- result is None where the path goes through what is neither a table nor an item of a list, and for the empty path.
 unfoldable pub with_key : List (List ℕ) → Data → Members → Option Members
 with_key [] value ms = None
 with_key (part ∷ path) value ms = changed_member part (with_path path value) ms
 
--- the items with a value set at the end of a path, whose first part numbers one of them
+-- the items with a value set at the end of a path; the first part of the path numbers one of them
 unfoldable pub with_item : List (List ℕ) → Data → Items → Option Items
 with_item [] value ds = None
 with_item (part ∷ path) value ds = changed_item part (with_path path value) ds
@@ -102,14 +102,14 @@ PartWays _ _ = ⊥
 
 -- ---- laws
 
--- what a document holds at the path of a set key is the value
+-- at the path of the set key, a document holds the value
 abbrev pub IsHeldWhereSet : Type 0
 IsHeldWhereSet =
     (path : List (List ℕ)) (value : Data) (before after : Members)
     → with_key path value before ≡ Some after
     → held_at path (table after) ≡ Some value
 
--- where another path parts from that of a set key, a document holds what it held
+-- at another path, which parts from that of the set key, a document holds what it held before
 abbrev pub StaysElsewhere : Type 0
 StaysElsewhere =
     (path others : List (List ℕ)) (value : Data) (before after : Members)

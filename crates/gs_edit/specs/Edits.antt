@@ -1,4 +1,4 @@
--- What is made of a document by the arguments, in their order.
+-- What the arguments make of a document, in their order.
 use Rattle.std.specs.Prelude.{◌+◌, ℕ, List, [], ◌∷◌, Option, Some, None, Ok, Err, Result, ok_or, if◌then◌else◌}
 use Rattle.toml.specs.Data.{Data, Members}
 use Rattle.toml.specs.Parse.{parse_value}

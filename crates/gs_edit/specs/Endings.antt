@@ -16,13 +16,14 @@ IsOf expected TooLong = ⊥
 IsOf expected NoToml = ⊥
 IsOf expected NotWritable = ⊥
 
--- Why what was expected was not made: a refusal says so, or there was no memory. No input was read.
+-- Why what was expected was not made: a refusal says why, or memory ran out. `InputFailed` is no cause here, because no
+-- input is read.
 abbrev pub Explains : {B : Type 0} → Result B EditFault → NoChange → Type 0
 Explains expected (Refused refusal) = IsOf expected refusal
 Explains expected InputFailed = ⊥
 Explains expected NoMemory = ⊤
 
--- what was made is what was expected, or why not is explained
+-- what was made is what was expected, or the cause explains why nothing was made
 abbrev pub Gives : {A B : Type 0} → (A → B) → Result A NoChange → Result B EditFault → Type 0
 Gives seen r expected = MatchResult r (λ a. expected ≡ Ok (seen a)) (Explains expected)
 

@@ -22,11 +22,11 @@ use Rattle.gs_edit.specs.declared.program.ExitStatus.TheVariants as ends
 
 -- ---- scenarios
 
--- the members nest no deeper than a text that is read may, and each date in them is one
+-- the members nest no deeper than a text that is read may, and each date in them is valid
 abbrev pub is_writable : Members → Bool
 is_writable ms = nat_le (members_depth ms) recursion_limit && members_have_valid_dates ms
 
--- the text writes the members as TOML, and is read as just these
+-- the text writes the members as TOML, and reading it gives the same members
 pub record IsTextOf (ms : Members) (text : List ℕ) : Type 0 where
   pub form : IsDocumentText false ms text
   pub reads_back : parse_document text ≡ Some ms
@@ -43,13 +43,13 @@ pub record IsChanged (arguments : List (List ℕ)) (input : Option (List ℕ)) (
   pub made : edited 1 arguments before ≡ Ok after
   pub written : IsTextOf after text
 
--- the scenario can be read, and the first argument that can't be followed is refused so
+-- the scenario can be read, and the fault is that of the first argument that can't be followed
 pub record IsRefusedEdit (arguments : List (List ℕ)) (bytes : List ℕ) (fault : EditFault) : Type 0 where
   pub before : Members
   pub holds : parse_document bytes ≡ Some before
   pub refused : edited 1 arguments before ≡ Err fault
 
--- the scenario can be read and changed, and what comes of it can't be written
+-- the scenario can be read and changed, but the result can't be written
 pub record IsNotWritable (arguments : List (List ℕ)) (bytes : List ℕ) : Type 0 where
   pub before : Members
   pub holds : parse_document bytes ≡ Some before
@@ -64,7 +64,8 @@ IsRefusal arguments bytes refusals.NoToml = IsUtf8 bytes → parse_document byte
 IsRefusal arguments bytes (refusals.Edit fault) = IsRefusedEdit arguments bytes fault
 IsRefusal arguments bytes refusals.NotWritable = IsNotWritable arguments bytes
 
--- why the bytes of a scenario were not changed: they are refused so, or there was no memory. They were read.
+-- Why the bytes of a scenario were not changed: they are refused for this reason, or memory ran out. `InputFailed` is no
+-- cause here, because the bytes were read.
 abbrev pub IsNotMade : List (List ℕ) → List ℕ → NoChange → Type 0
 IsNotMade arguments bytes (causes.Refused refusal) = IsRefusal arguments bytes refusal
 IsNotMade arguments bytes causes.InputFailed = ⊥
@@ -72,14 +73,14 @@ IsNotMade arguments bytes causes.NoMemory = ⊤
 
 -- ---- readings
 
--- the reading is one of this input: what was read is all of it, and it is called too long only where it is
+-- the reading is one of this input: what was read is all of the input, and the input is called too long only where it is
 abbrev pub IsReading : Option (List ℕ) → Result (Vec ℕ Global) ReadFault → Type 0
 IsReading input (Ok bytes) = IfSome input (λ given. bytes.items ≡ given)
 IsReading input (Err reads.Failed) = ⊤
 IsReading input (Err reads.TooLong) = IfSome input (λ given. longest_input < length given)
 IsReading input (Err reads.NoMemory) = ⊤
 
--- why nothing is changed that was not read to its end
+-- why a scenario that was not read to its end is not changed
 abbrev pub unread : ReadFault → NoChange
 unread reads.Failed = causes.InputFailed
 unread reads.TooLong = causes.Refused refusals.TooLong
@@ -133,7 +134,8 @@ usage_line = codes "usage: gossip_edit KEY=VALUE..\n"
 
 -- ---- ends
 
--- Of each end: what the reader had is `input`, and each writer held the first and then the second.
+-- In each end, `input` is what the reader had. `output` and `errors` are what each writer held before, and `output'` and
+-- `errors'` what it held after.
 
 -- a text of the changed scenario is on the output, and nothing more on errors
 pub record Changed (arguments : List (List ℕ)) (input output output' errors errors' : Option (List ℕ)) : Type 0 where
@@ -154,14 +156,14 @@ pub record Told (words : List ℕ) (output output' errors errors' : Option (List
   pub line : AppendsFront errors errors' words
   pub silent : Keeps output output'
 
--- a front of a text of the changed scenario is on the output, which failed then
+-- a front of a text of the changed scenario is on the output, which then failed
 pub record OutputFailed (arguments : List (List ℕ)) (input output output' errors errors' : Option (List ℕ)) : Type 0 where
   pub text : List ℕ
   pub changed : IsChanged arguments input text
   pub front : AppendsFront output output' text
   pub line : AppendsFront errors errors' (codes "output failed\n")
 
--- what was asked for is no edit
+-- the arguments are no edits
 pub record WrongArguments (arguments : List (List ℕ)) (output output' errors errors' : Option (List ℕ)) : Type 0 where
   pub wrong : are_edits arguments ≡ false
   pub told : Told usage_line output output' errors errors'
@@ -177,13 +179,13 @@ EndsAs ends.OutputFailed arguments input output output' errors errors' =
 EndsAs ends.WrongArguments arguments input output output' errors errors' =
     WrongArguments arguments output output' errors errors'
 
--- a line is on errors, or a front of it, and the program ends so
+-- a line is on errors, or a front of it, and the status is the wanted one
 pub record Says (words : List ℕ) (wanted status : ExitStatus) (errors errors' : Option (List ℕ)) : Type 0 where
   pub status_is : status ≡ wanted
   pub line : AppendsFront errors errors' words
 
--- How the program ends where nothing was changed: each cause has its own end. Of a refusal that is the end where there was
--- memory for its line.
+-- How the program ends where nothing was changed: each cause has its own end. A refusal has the end for no memory where
+-- memory for its line ran out.
 abbrev pub EndsFor : NoChange → List (List ℕ) → ExitStatus → (errors errors' : Option (List ℕ)) → Type 0
 EndsFor (causes.Refused refusal) arguments status errors errors' =
     Says (refusal_line arguments refusal) ends.EditRefused status errors errors'
@@ -191,7 +193,7 @@ EndsFor (causes.Refused refusal) arguments status errors errors' =
 EndsFor causes.InputFailed arguments status errors errors' = Says input_line ends.InputFailed status errors errors'
 EndsFor causes.NoMemory arguments status errors errors' = Says no_memory_line ends.NoMemory status errors errors'
 
--- of arguments that can't be read only the line is said that belongs to the status
+-- for arguments that can't be read, only the line of the status is written
 abbrev pub RefusesArguments : ExitStatus → (errors errors' : Option (List ℕ)) → Type 0
 RefusesArguments ends.NoMemory errors errors' = AppendsFront errors errors' no_memory_line
 RefusesArguments ends.WrongArguments errors errors' = AppendsFront errors errors' usage_line

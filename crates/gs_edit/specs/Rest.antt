@@ -8,7 +8,7 @@ abbrev pub rest_of : Option (Bor (List ℕ)) → List (List ℕ)
 rest_of None = []
 rest_of (Some rest) = path_of rest.now
 
--- how much text is left
+-- a measure of the text that is left
 abbrev pub text_left : Option (Bor (List ℕ)) → ℕ
 text_left None = 0
 text_left (Some rest) = 2 * length rest.now + 2

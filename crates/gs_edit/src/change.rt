@@ -10,14 +10,14 @@ use std::alloc::Global;
 use toml::Table;
 use toml::de::Error;
 
-/// How deep a text may nest that is read again.
+/// How deep a text may nest so that it can be read again.
 const DEEPEST: u32 = 80;
 
 /// The text of the scenario that was read, with each argument's value at its key.
 ///
 /// # Errors
-/// `InputFailed` where a read failed or the reads ran out, `Refused` with the first refusal, and
-/// `NoMemory`.
+/// `InputFailed` where a read failed, or the input had not ended after the most reads that are made; `Refused` with the
+/// first refusal, and `NoMemory`.
 pub(crate) fn changed(
     alloc: Global,
     arguments: &[String],
@@ -34,7 +34,7 @@ pub(crate) fn changed(
     }
 }
 
-/// Why nothing is changed that was not read to its end.
+/// Why a scenario that was not read to its end is not changed.
 fn unread(fault: ReadFault) -> NoChange
     ensures { result ≡ unread fault }
 {

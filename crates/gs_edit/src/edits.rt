@@ -22,7 +22,7 @@ pub enum EditFault {
     NoTable(usize),
 }
 
-/// Why a scenario can't be changed so.
+/// Why a scenario can't be changed in the way that the arguments ask for.
 #[derive(Clone, Copy, Debug, PartialEq, Eq)]
 pub enum Refusal {
     /// The scenario is longer than it may be.
@@ -31,7 +31,7 @@ pub enum Refusal {
     NoToml,
     /// An argument can't be followed.
     Edit(EditFault),
-    /// The changed scenario can't be written: it nests too deep, or holds a date that is none.
+    /// The changed scenario can't be written: it nests too deep, or holds an invalid date.
     NotWritable,
 }
 
@@ -49,18 +49,18 @@ impl From<EditFault> for NoChange {
 /// Why there is no text of a changed scenario.
 #[derive(Clone, Copy, Debug, PartialEq, Eq)]
 pub enum NoChange {
-    /// The scenario can't be changed so.
+    /// The scenario can't be changed in the way that the arguments ask for.
     Refused(Refusal),
-    /// A read of the input failed, or the reads ran out.
+    /// A read of the input failed, or the input had not ended after the most reads that are made.
     InputFailed,
-    /// There was no memory.
+    /// Out of memory.
     NoMemory,
 }
 
 /// Sets in a table, for each argument in turn, the argument's key to its value.
 ///
 /// # Errors
-/// `Refused` with the first refusal, and `NoMemory`. In the table may then be a placeholder.
+/// `Refused` with the first refusal, and `NoMemory`. The table may then hold a placeholder.
 pub(crate) fn edit_all(
     alloc: Global,
     table: &mut Table,
@@ -93,7 +93,7 @@ fn edit_by(alloc: Global, table: &mut Table, number: usize, argument: &str) -> R
     }
 }
 
-/// Why the value of the argument with this number is none.
+/// Why there is no change where the value of the argument with this number can't be read.
 fn no_value(fault: &Error, number: usize) -> NoChange
     ensures memory { IsMemory fault.now → result ≡ NoChange.NoMemory }
     ensures other { ¬ IsMemory fault.now → result ≡ NoChange.Refused (Refusal.Edit (EditFault.NoValue number)) }

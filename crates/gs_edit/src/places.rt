@@ -18,7 +18,7 @@ use toml::{Table, Value};
 pub(crate) enum PlaceFault {
     /// The path goes through what is neither a table nor an element of a list.
     NoTable,
-    /// There was no memory.
+    /// Out of memory.
     NoMemory,
 }
 
@@ -45,8 +45,8 @@ impl<T: Drop> From<AllocFailed<T>> for PlaceFault {
 /// Sets a value in a table at a key. A table that the key goes through is made where it is absent.
 ///
 /// # Errors
-/// `NoTable` where the key goes through what is neither a table nor an element of a list. In the
-/// table may then be a placeholder.
+/// `NoTable` where the key goes through what is neither a table nor an element of a list, and `NoMemory`. The table may then
+/// hold a placeholder.
 #[cycle(set_in_table)]
 pub(crate) fn set_in_table(
     alloc: Global,

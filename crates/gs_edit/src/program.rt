@@ -17,11 +17,11 @@ use std::process::ExitCode;
 pub enum ExitStatus {
     /// The changed scenario is on the output.
     Changed,
-    /// The scenario can't be read, or can't be changed so.
+    /// The scenario can't be read, or can't be changed in the way that the arguments ask for.
     EditRefused,
-    /// There was no memory for the changed scenario, or for the line of a refusal.
+    /// Out of memory for the changed scenario, or for the line of a refusal.
     NoMemory,
-    /// A read of the input failed, or it was read `MOST_READS` times and had not ended.
+    /// A read of the input failed, or the input had not ended after `MOST_READS` reads.
     InputFailed,
     /// The changed scenario could not be written.
     OutputFailed,
@@ -43,16 +43,16 @@ impl From<ExitStatus> for ExitCode {
     }
 }
 
-/// What is said where the arguments are no edits.
+/// What is written where the arguments are no edits.
 pub const USAGE: &str = "usage: gossip_edit KEY=VALUE..\n";
 
-/// What is said out of memory.
+/// What is written when out of memory.
 pub const NO_MEMORY: &str = "edit refused: no memory\n";
 
-/// Reads a scenario from the input, sets the key of each argument to the argument's value, and writes
-/// the changed scenario to the output. Its comments are gone, and the keys of each table ascend. Where
-/// there is no changed scenario, a line on `errors` says why. Where that line can't be written, the
-/// status stays the same. Where the arguments are no edits, the input is not read.
+/// Reads a scenario from the input, sets the key of each argument to the argument's value, and writes the changed scenario
+/// to the output. The changed scenario has no comments, and the keys of each table ascend. Where there is no changed
+/// scenario, a line on `errors` says why. Where that line can't be written, the status stays the same. Where the arguments
+/// are no edits, the input is not read.
 pub fn run<R, W, E>(
     alloc: Global,
     arguments: &[String],
@@ -100,7 +100,8 @@ where
     }
 }
 
-/// Says why the arguments could not be read: one of them is no text, or there was no memory.
+/// Writes the line for arguments that could not be read, or a front of it, to `errors`, and returns the status. The status
+/// is `NoMemory` when out of memory for the arguments. Otherwise it is `WrongArguments`, because one of them is no text.
 pub fn refuse_arguments<E: Write>(cause: ErrorKind, errors: &mut E) -> ExitStatus
     ensures told { RefusesArguments result (E.contents errors.old) (E.contents errors.new) }
     ensures memory { (result ≡ ExitStatus.NoMemory) ↔ (cause ≡ ErrorKind.OutOfMemory) }

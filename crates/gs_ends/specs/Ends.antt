@@ -1,4 +1,4 @@
--- Which links a peer's ends belong to, and what a call of them does to the lists of a neighbour.
+-- Which links a peer's ends belong to, and what a call changes in the lists of a neighbour.
 use Rattle.std.specs.Prelude.{◌≡◌, ◌≢◌, ◌≤◌, ℕ, Bool, true, false, if◌then◌else◌, List, [], ◌∷◌, ◌++◌, length, Option, Some, None, IfSome, Result, Ok, Err}
 use Rattle.std.specs.List.{list_any}
 use Rattle.gs_base.specs.declared.names.PeerNo.{PeerNo}
@@ -45,17 +45,17 @@ comes_from (joint ∷ joints) q = if is_joint_of q joint then joint.comes else c
 abbrev pub IsFront : List Slot → List Slot → Type 0
 IsFront slots all = (rest : List Slot) × (slots ++ rest ≡ all)
 
--- where it is settled what comes from a neighbour, the first of that were taken
+-- where it is settled what comes from a neighbour, what was taken is the front of that
 abbrev pub TakesFront : List Joint → (PeerNo → List Slot) → PeerNo → Type 0
 TakesFront joints taken q = IfSome (comes_from joints q) (λ all. IsFront (taken q) all)
 
--- where the close of a neighbour was taken, all was that comes from it
+-- where the close of a neighbour was taken, all that comes from it was taken
 abbrev pub TakesAll : List Joint → (PeerNo → List Slot) → PeerNo → Type 0
 TakesAll joints taken q = closes (taken q) ≡ true → comes_from joints q ≡ Some (taken q)
 
 -- ---- how a call changes the lists
 
--- the lists of other neighbours stay
+-- the lists of other neighbours stay as they are
 abbrev pub OthersStay : PeerNo → (PeerNo → List Slot) → (PeerNo → List Slot) → Type 0
 OthersStay p before after = (q : PeerNo) → q ≢ p → after q ≡ before q
 
@@ -79,7 +79,7 @@ IsTaken before after took.Closed = after ≡ with_close before
 
 -- ---- how far lists grow
 
--- of slots that are each a neighbour's, those of q
+-- the slots of q, among slots that each belong to a neighbour
 abbrev pub slots_of : List (PeerNo × Slot) → PeerNo → List Slot
 slots_of [] q = []
 slots_of (x ∷ xs) q = if same_peer x.0 q then x.1 ∷ slots_of xs q else slots_of xs q

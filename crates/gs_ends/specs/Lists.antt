@@ -1,4 +1,4 @@
--- Ends that are lists in memory: what lies in them, and how they stand in a list of neighbours.
+-- Ends that are lists in memory: what lies in them, and how a list of neighbours holds them.
 use Rattle.std.specs.Prelude.{ℕ, suc, ◌+◌, Bool, true, false, not, ◌&&◌, ◌||◌, nat_eq, nat_le, if◌then◌else◌, List, [], ◌∷◌, length, take, drop, Some, ◌≡◌, ◌<◌, ◌^◌, map}
 use Rattle.std.specs.declared.vec.Vec.{Vec}
 use Rattle.std.specs.declared.alloc.Global.{Global}
@@ -23,7 +23,7 @@ abbrev pub as_slots : List Item → Bool → List Slot
 as_slots [] closed = if closed then Close ∷ [] else []
 as_slots (item ∷ items) closed = slot_of item ∷ as_slots items closed
 
--- an end that accepts as many slots as there is room for, by the items that it accepted
+-- an end with room for this many slots, which accepted these items, and then the close where `closed` is true
 abbrev pub listed_sender : ℕ → List Item → Bool → SendingEnd
 listed_sender room items closed = record { link = no_link; capacity = room; accepted = as_slots items closed }
 
@@ -48,7 +48,7 @@ Listed = PeerNo × SendingEnd × Incoming
 abbrev pub Source : Type 0
 Source = PeerNo × Vec Item Global
 
--- its ends, before any call
+-- a neighbour's ends, before any call
 abbrev pub fresh_ends : ℕ → Source → Listed
 fresh_ends room source = (source.0, listed_sender room [] false, record { given = source.1.items; count = 0 })
 
@@ -73,7 +73,7 @@ pub record ListedEnds : Type 0 where
   -- how many puts were counted after the last such one
   pub count : ℕ
 
--- ---- what the ends are known for
+-- ---- what contracts see of the ends
 
 abbrev pub joint_in_lists : Listed → Joint
 joint_in_lists ends = record { peer = ends.0; to = ends.1.link; from = no_link; comes = Some (all_of ends.2) }
@@ -86,7 +86,7 @@ joints_listed lists = map joint_in_lists lists
 abbrev pub taken_listed : List Listed → PeerNo → List Slot
 taken_listed lists q = slots_with (λ ends. taken_of ends.2) lists q
 
--- the same of the ends, with all that was accepted for a neighbour
+-- the same three for ends, with all that was accepted for a neighbour
 abbrev pub joints_in_lists : ListedEnds → List Joint
 joints_in_lists ends = joints_listed ends.lists
 
@@ -102,32 +102,32 @@ list_ends = record { joints = joints_in_lists; accepted = accepted_in_lists; tak
 
 -- ---- which puts are refused
 
--- one more is counted: whether it is the last of `every`, and how many stand after the last such one
+-- one more put is counted: whether it is the last of `every`, and how many puts were counted after the last such one
 abbrev pub counted : ℕ → ℕ → Bool × ℕ
 counted every count =
     if nat_eq every 0 then (false, count) else if nat_le every (count + 1) then (true, 0) else (false, count + 1)
 
--- how many slots the end to a neighbour accepts, and none where there is no such neighbour
+-- how many slots the end to a neighbour accepts, or 0 where there is no such neighbour
 abbrev pub room_for : List Listed → PeerNo → ℕ
 room_for [] q = 0
 room_for (ends ∷ lists) q = if is_of q ends then ends.1.capacity else room_for lists q
 
--- the end has not accepted the close, and refuses a put that is not wanted, or for which it has no room
+-- the end refuses a put: it has not accepted the close, and the put is unwanted or there is no room for it
 abbrev pub refuses : SendingEnd → Bool → Bool
 refuses end unwanted = not (closes end.accepted) && (unwanted || nat_le end.capacity (length end.accepted))
 
--- A put to a neighbour is answered `Full`: its close is not accepted, and either the put is the last of `every`, or as
--- many slots are accepted as there is room for.
+-- A put to a neighbour is answered `Full`. Its close is not accepted, and either the put is the last of `every`, or there is no
+-- room for it.
 abbrev pub is_answered_full : ListedEnds → PeerNo → Bool
 is_answered_full ends q =
     not (closes (accepted_in_lists ends q))
     && ((counted ends.every ends.count).0 || nat_le (room_for ends.lists q) (length (accepted_in_lists ends q)))
 
--- how many puts are counted after one to a neighbour: one behind its close is not
+-- the count after a put to a neighbour: a put that follows its close is not counted
 abbrev pub count_after : ListedEnds → PeerNo → ℕ
 count_after ends q = if closes (accepted_in_lists ends q) then ends.count else (counted ends.every ends.count).1
 
--- Room and count stay as they are, but for how many puts are counted.
+-- Room and `every` stay as they are, and the count is then `after`.
 pub record KeepsRoom (old new : ListedEnds) (after : ℕ) : Type 0 where
   pub every : new.every ≡ old.every
   pub count : new.count ≡ after
@@ -135,11 +135,11 @@ pub record KeepsRoom (old new : ListedEnds) (after : ℕ) : Type 0 where
 
 -- ---- what is left of the items that come from a neighbour
 
--- how many slots were taken, by how many items were, and whether the close was
+-- how many slots were taken, from how many items were taken and whether the close was
 abbrev pub slots_taken : ℕ → Bool → ℕ
 slots_taken items closed = if closed then suc items else items
 
--- As many as `taken` were taken of all items, and the rest is left, each within its size. The close comes last.
+-- The first items were taken, `taken` in number, and the rest is left. Each that is left may be sent. The close comes last.
 pub record IsRest (taken : ℕ) (closed : Bool) (all left : List Item) : Type 0 where
   pub rest : left ≡ drop taken all
   pub count : taken + length left ≡ length all

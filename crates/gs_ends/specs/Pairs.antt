@@ -16,7 +16,7 @@ Pair = PeerNo × SendingEnd × TakingEnd
 abbrev pub is_of : {A B : Type 0} → PeerNo → PeerNo × A × B → Bool
 is_of q x = same_peer x.0 q
 
--- the place of the first that is of this neighbour
+-- the place of the first element that is of this neighbour
 abbrev pub position_in : {A B : Type 0} → List (PeerNo × A × B) → PeerNo → ℕ
 position_in [] q = 0
 position_in (x ∷ xs) q = if is_of q x then 0 else suc (position_in xs q)
@@ -25,7 +25,7 @@ position_in (x ∷ xs) q = if is_of q x then 0 else suc (position_in xs q)
 abbrev pub peers_in : {A B : Type 0} → List (PeerNo × A × B) → List PeerNo
 peers_in xs = map (λ x. x.0) xs
 
--- ---- what the ends are known for
+-- ---- what contracts see of the ends
 
 -- which links the ends of each neighbour belong to
 abbrev pub joint_of : Pair → Joint
@@ -34,7 +34,7 @@ joint_of pair = linked pair.0 pair.1.link pair.2.link
 abbrev pub joints_of : List Pair → List Joint
 joints_of pairs = map joint_of pairs
 
--- the list that an end of a neighbour has, and none where there is no such neighbour
+-- the list that an end of a neighbour has, or the empty list where there is no such neighbour
 abbrev pub slots_with : {A B : Type 0} → (PeerNo × A × B → List Slot)
     → List (PeerNo × A × B) → PeerNo → List Slot
 slots_with list [] q = []

@@ -8,12 +8,11 @@ ghost use Rattle.gs_ends.specs.Ends.{IsFinished, IsPut, IsTaken, Joint, OthersSt
 use gs_base::PeerNo;
 use gs_link::{CloseRefused, Item, SendRefused, Taken};
 
-/// The ends of a peer's links: to each neighbour one that sends and one that takes. Contracts see
-/// which link each end belongs to, and for each neighbour the list of all that was accepted for it
-/// and the list of all that was taken from it. Where it is settled beforehand what comes from a
-/// neighbour, they see that, too, and no call changes it. No call takes memory.
+/// The ends of a peer's links: for each neighbour one that sends and one that takes. Contracts see which link each end belongs
+/// to. For each neighbour they see the list of all that was accepted for it, and the list of all that was taken from it. Where
+/// what comes from a neighbour is settled beforehand, they see that, too, and no call changes it. No call takes memory.
 pub trait Ends: Drop {
-    // Which neighbours there are, the links to and from each, and what comes, where that is settled.
+    // Which neighbours there are, the links to and from each, and what comes from each, where that is settled beforehand.
     ghost joints: { Self → List Joint };
 
     // What was accepted for a neighbour.
@@ -25,8 +24,7 @@ pub trait Ends: Drop {
     /// Puts the item at the back of what goes to a neighbour.
     ///
     /// # Errors
-    /// `Closed` where the end is closed, and `Full` where there is no room. Either hands the item
-    /// back, and nothing is accepted.
+    /// `Closed` if the end is closed, and `Full` if there is no room. Either hands the item back, and nothing is accepted.
     fn put(&mut self, to: PeerNo, item: Item) -> Result<(), SendRefused>
         requires known { has (joints self.old) to ≡ true }
         requires size { IsSendable item }
@@ -38,7 +36,7 @@ pub trait Ends: Drop {
     /// Puts the close at the back of what goes to a neighbour. Nothing is accepted after it.
     ///
     /// # Errors
-    /// `Closed` where the end is closed, and `Full` where there is no room; nothing is accepted.
+    /// `Closed` if the end is closed, and `Full` if there is no room. In either case nothing is accepted.
     fn finish(&mut self, to: PeerNo) -> Result<(), CloseRefused>
         requires known { has (joints self.old) to ≡ true }
         ensures joints { joints self.new ≡ joints self.old }
@@ -46,9 +44,8 @@ pub trait Ends: Drop {
         ensures others { OthersStay to (accepted self.old) (accepted self.new) }
         ensures taken { (q : PeerNoValue) → taken self.new q ≡ taken self.old q };
 
-    /// Takes what came first from a neighbour, of what was not taken. It answers `Empty` where
-    /// nothing waits, which is never so where it is settled what comes. After the close it answers
-    /// `Closed` again.
+    /// Takes the first slot from a neighbour that was not taken yet. It answers `Empty` if nothing waits, but never where what
+    /// comes is settled beforehand. After the close it answers `Closed` again.
     fn take(&mut self, from: PeerNo) -> Taken
         requires known { has (joints self.old) from ≡ true }
         ensures joints { joints self.new ≡ joints self.old }

@@ -1,4 +1,4 @@
-//! An end that takes, as a list in memory.
+//! A taking end that is a list in memory.
 ghost use Rattle.std.specs.Prelude.{◌≡◌, false};
 ghost use Rattle.std.specs.List.{All};
 ghost use Rattle.gs_link.specs.Items.{IsSendable};
@@ -31,7 +31,7 @@ impl Model for Inbound {
 }
 
 impl Inbound {
-    /// An end from which these items come, in this order.
+    /// Creates an end from which these items come, in this order.
     pub(crate) fn new(items: Vec<Item>) -> Inbound
         requires size { All IsSendable items.items }
         ensures { result ≡ record { given = items.items; count = 0 } }
@@ -47,8 +47,8 @@ impl Inbound {
         }
     }
 
-    /// Takes the first item of those that are left. After the last one it takes the close, and answers
-    /// that again and again.
+    /// Takes the first item of those that are left. After the last one it takes the close, and answers `Closed` to each later
+    /// call.
     pub(crate) fn take(&mut self) -> Taken
         ensures given { self.new.given ≡ self.old.given }
         ensures taken { IsTaken (taken_of self.old) (taken_of self.new) result }

@@ -1,5 +1,5 @@
-//! The ends of a peer's links, by neighbour: those of links, and lists in memory in their place. So a task stands
-//! on what any ends promise, and is tested without threads.
+//! The ends of a peer's links, by neighbour: either true ends of links, or lists in memory. A task relies only on what any ends
+//! promise, so it can be tested without threads.
 #![tactic(auto)]
 
 mod ends;

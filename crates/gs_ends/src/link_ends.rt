@@ -14,14 +14,13 @@ use gs_link::{CloseRefused, Item, LinkRx, LinkTx, SendRefused, Taken};
 use std::marker::Model;
 use std::sync::Wait;
 
-/// The ends of links, by neighbour. Contracts see them as the list of the neighbours, each with the
-/// end that sends to it and the end that takes from it. A neighbour is looked for from where one was
-/// found last.
+/// The ends of links, by neighbour. Contracts see the list of the neighbours, each with the end that sends to it and the end
+/// that takes from it. A search for a neighbour begins at the place where one was found last.
 #[derive(Drop)]
 pub struct LinkEnds<R: Wait + Drop> {
     rt: R,
     list: Vec<(PeerNo, LinkTx, LinkRx)>,
-    /// Where a neighbour was found last.
+    /// The place where a neighbour was found last.
     last: usize,
 }
 
@@ -39,7 +38,7 @@ impl<R: Wait + Drop> Model for LinkEnds<R> {
 }
 
 impl<R: Wait + Drop> LinkEnds<R> {
-    /// The ends of this list, in which no neighbour stands twice. The links wait through `rt`.
+    /// Creates ends from this list, in which no neighbour may stand twice. The links wait through `rt`.
     pub fn new(rt: R, list: Vec<(PeerNo, LinkTx, LinkRx)>) -> LinkEnds<R>
         requires apart { IsDistinct same_peer (peers_in list.items) }
         ensures ends { result ≡ list.items }
@@ -47,7 +46,7 @@ impl<R: Wait + Drop> LinkEnds<R> {
         LinkEnds { rt, list, last: 0 }
     }
 
-    /// Gives the ends back, in the order in which they were given.
+    /// Returns the ends, in the order in which they were given to `new`.
     pub fn into_list(self) -> Vec<(PeerNo, LinkTx, LinkRx)>
         ensures ends { result.items ≡ self }
     {
@@ -63,7 +62,7 @@ impl<R: Wait + Drop> Ends for LinkEnds<R> {
 
     ghost taken = { λ s q. taken_from s q };
 
-    // Each item goes through here: inlined, it is moved once less.
+    // Each item goes through here. Inlining saves one move of it.
     #[inline(always)]
     fn put(&mut self, to: PeerNo, item: Item) -> Result<(), SendRefused> {
         let place = position_near(self.list.as_slice(), self.last, to);

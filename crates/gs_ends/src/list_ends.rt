@@ -20,10 +20,9 @@ use gs_link::{CloseRefused, Item, SendRefused, Taken};
 use std::alloc::{AllocError, Global};
 use std::marker::Model;
 
-/// Ends that are lists in memory, by neighbour: items that come from it, and those that were
-/// accepted for it. Contracts see them as the list of the neighbours, each with an end that sends to
-/// it, the items that were given for it and how many slots were taken of those; and with how puts are
-/// counted. They belong to no link, and can refuse every n-th put.
+/// Ends that are lists in memory: for each neighbour, the items that come from it and those that were accepted for it. Contracts
+/// see the list of the neighbours, each with its sending end, its given items, and how many slots of those were taken. They also
+/// see how puts are counted. The ends belong to no link, and can refuse every n-th put.
 #[derive(Drop)]
 pub struct ListEnds {
     list: Vec<(PeerNo, Outbound, Inbound)>,
@@ -40,17 +39,16 @@ impl Model for ListEnds {
 }
 
 impl ListEnds {
-    /// Ends from which the items of `inbound` come, each neighbour's in order and then the close. No
-    /// neighbour stands twice there, and each item may be sent. Before any call nothing was accepted or
-    /// taken.
+    /// Creates ends from which the items of `inbound` come: for each neighbour its items in order, and then the close. No
+    /// neighbour may stand in `inbound` twice, and each item must be one that may be sent. Nothing is accepted or taken yet.
     ///
-    /// To each neighbour `room` slots are accepted, and the close takes one of them. The puts of
-    /// items and of closes to ends that have not accepted the close are counted, over all neighbours
-    /// together: `Full` is what comes past the room, and what has a count that is a multiple of
-    /// `every`, where that is not 0.
+    /// For each neighbour there is room for `room` slots, and the close takes one of them. Puts of items and of closes are
+    /// counted over all neighbours together. A put to an end that has accepted the close is not counted. A counted put is
+    /// answered `Full` if there is no room for it, or if its count is a multiple of `every`. Where `every` is 0, no put is
+    /// refused for its count.
     ///
     /// # Errors
-    /// `AllocError` where there was no memory. No later call takes any.
+    /// `AllocError` if memory runs out. No later call takes memory.
     pub fn new(
         alloc: Global,
         inbound: Vec<(PeerNo, Vec<Item>)>,
@@ -77,7 +75,7 @@ impl ListEnds {
         })
     }
 
-    /// The items that were accepted for a neighbour, in order, without the close.
+    /// Returns the items that were accepted for a neighbour, in order, without the close.
     pub fn sent(&self, to: PeerNo) -> &[Item]
         requires known { has (joints_in_lists self.now) to ≡ true }
         ensures { as_slots result.now (closes (accepted_in_lists self.now to)) ≡ accepted_in_lists self.now to }
@@ -87,9 +85,8 @@ impl ListEnds {
         pair.1.items()
     }
 
-    /// What was taken from a neighbour is the first of the items that were given for it, in order, and
-    /// nothing is left out. Once the close was taken, all of them were. A call keeps `joints`, so this
-    /// holds of ends that come back, too.
+    /// The slots that were taken from a neighbour are the first of those that were given for it, in order and without gaps. Once
+    /// the close was taken, all of them were taken. Calls keep `joints`, so this also holds for ends that a task gives back.
     pub fn prove_taken_in_order(&self)
         ensures front { (q : PeerNoValue) → TakesFront (joints_in_lists self.now) (taken_in_lists self.now) q }
         ensures whole { (q : PeerNoValue) → TakesAll (joints_in_lists self.now) (taken_in_lists self.now) q }
@@ -112,7 +109,7 @@ fn is_counted_out(every: u64, count: &mut u64) -> bool
     false
 }
 
-/// Whether a put is refused for its count. One to an end that has accepted the close is not counted.
+/// Whether a put is refused for its count. A put to an end that has accepted the close is not counted.
 fn is_refused(every: u64, count: &mut u64, closed: bool) -> bool
     ensures answer { result ≡ (not closed && (counted every count.old).0) }
     ensures count { count.new ≡ if closed then count.old else (counted every count.old).1 }
@@ -130,8 +127,8 @@ impl Ends for ListEnds {
 
     ghost taken = { λ s q. taken_in_lists s q };
 
-    /// Puts the item at the back of what goes to a neighbour. It answers `Full` where its count refuses it or there is no
-    /// room, and nowhere else.
+    /// Puts the item at the back of what goes to a neighbour. It answers `Full` only where the put is refused for its count, or
+    /// there is no room.
     fn put(&mut self, to: PeerNo, item: Item) -> Result<(), SendRefused>
         requires known { has (joints_in_lists self.old) to ≡ true }
         requires size { IsSendable item }
@@ -149,7 +146,7 @@ impl Ends for ListEnds {
         pair.1.put(item, refused)
     }
 
-    /// Puts the close at the back of what goes to a neighbour. It answers `Full` where an item would be answered so.
+    /// Puts the close at the back of what goes to a neighbour. It answers `Full` where a put of an item would answer `Full`.
     fn finish(&mut self, to: PeerNo) -> Result<(), CloseRefused>
         requires known { has (joints_in_lists self.old) to ≡ true }
         ensures joints { joints_in_lists self.new ≡ joints_in_lists self.old }
@@ -166,7 +163,7 @@ impl Ends for ListEnds {
         pair.1.finish(refused)
     }
 
-    /// Takes what came first from a neighbour, of what was not taken. It leaves room and count as they are.
+    /// Takes the first slot from a neighbour that was not taken yet. Room and count stay as they are.
     fn take(&mut self, from: PeerNo) -> Taken
         requires known { has (joints_in_lists self.old) from ≡ true }
         ensures joints { joints_in_lists self.new ≡ joints_in_lists self.old }

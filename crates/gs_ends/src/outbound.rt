@@ -1,4 +1,4 @@
-//! An end that sends, as a list in memory.
+//! A sending end that is a list in memory.
 ghost use Rattle.std.specs.Prelude.{◌≡◌, [], false, IfOk};
 ghost use Rattle.gs_link.specs.Runs.{closes};
 ghost use Rattle.gs_ends.specs.Ends.{IsFinished, IsPut};
@@ -31,7 +31,7 @@ impl Model for Outbound {
 }
 
 impl Outbound {
-    /// An end that accepts `room` slots.
+    /// Creates an end that accepts `room` slots.
     pub(crate) fn new(alloc: Global, room: usize) -> Result<Outbound, AllocError>
         ensures { IfOk result (λ end. end ≡ listed_sender room [] false) }
     {
@@ -43,7 +43,7 @@ impl Outbound {
         })
     }
 
-    /// Puts the item at the back, where there is room and `refused` is not set.
+    /// Puts the item at the back, if there is room and `refused` is not set.
     #[tactic(auto, using(crate::proofs::SlotLists::closes_as_slots, crate::proofs::SlotLists::as_slots_snoc, crate::proofs::SlotLists::length_as_slots))]
     pub(crate) fn put(&mut self, item: Item, refused: bool) -> Result<(), SendRefused>
         ensures link { self.new.link ≡ self.old.link }
@@ -63,7 +63,7 @@ impl Outbound {
         }
     }
 
-    /// Puts the close at the back, where there is room and `refused` is not set.
+    /// Puts the close at the back, if there is room and `refused` is not set.
     #[tactic(auto, using(crate::proofs::SlotLists::closes_as_slots, crate::proofs::SlotLists::as_slots_close, crate::proofs::SlotLists::length_as_slots))]
     pub(crate) fn finish(&mut self, refused: bool) -> Result<(), CloseRefused>
         ensures link { self.new.link ≡ self.old.link }

@@ -5,7 +5,7 @@ ghost use Rattle.gs_ends.specs.Pairs.{is_of, peers_in, position_in};
 
 use gs_base::PeerNo;
 
-/// The place of a neighbour that stands in the list, by looking at one after the other.
+/// Returns the place of a neighbour that stands in the list. It looks at one after the other.
 pub(crate) fn position_of<T, U>(list: &[(PeerNo, T, U)], who: PeerNo) -> usize
     requires known { list_any (is_of who) list.now ≡ true }
     ensures within { result < length list.now }
@@ -19,7 +19,7 @@ pub(crate) fn position_of<T, U>(list: &[(PeerNo, T, U)], who: PeerNo) -> usize
     unreachable!()
 }
 
-/// The same in a list in which no neighbour stands twice. It looks first where one was found last, and after that: a
+/// The same for a list in which no neighbour stands twice. It looks first from the place where one was found last, since a
 /// peer goes through its neighbours in their order.
 pub(crate) fn position_near<T, U>(list: &[(PeerNo, T, U)], last: usize, who: PeerNo) -> usize
     requires known { list_any (is_of who) list.now ≡ true }

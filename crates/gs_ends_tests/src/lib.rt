@@ -1,5 +1,5 @@
-//! What links and ends answer. A crate is proved once more with its own tests, so these stand apart from the two that they
-//! call.
+//! Tests of what links and ends answer. The prover proves a crate again with its own tests, so these have a crate of their
+//! own.
 #![tactic(auto)]
 
 #[cfg(test)]

@@ -1,4 +1,4 @@
--- What some peers of a run say of others, or to them.
+-- Figures between some peers of a run and others: scores, traffic over links, and places in meshes.
 use Rattle.std.specs.Prelude.{ℕ, ℤ, pos, ◌&&◌, List, filter, fold, length, map, Option, None, Some}
 use Rattle.std.specs.List.{flat_map}
 use Rattle.gs_base.specs.declared.names.PeerNo.{PeerNo}
@@ -18,7 +18,7 @@ use Rattle.gs_figure_sheets.specs.Rows.{lower}
 
 -- ---- scores
 
--- those of these scores that some peers have
+-- those of these scores that some peers receive
 abbrev pub scores_about : Chosen → List (PeerNo × ℤ) → List ℤ
 scores_about about scores = map (λ (x : PeerNo × ℤ). x.1) (filter (λ (x : PeerNo × ℤ). is_chosen about x.0) scores)
 
@@ -26,15 +26,15 @@ scores_about about scores = map (λ (x : PeerNo × ℤ). x.1) (filter (λ (x : P
 abbrev pub only_by : Chosen → List (PeerNo × Finished) → List (PeerNo × Finished)
 only_by by peers = filter (λ (x : PeerNo × Finished). is_chosen by x.0) peers
 
--- what some peers score some others at the end
+-- the scores that some peers give some others at the end
 abbrev pub scores_between : Chosen → Chosen → List (PeerNo × Finished) → List ℤ
 scores_between by about peers = flat_map (λ (x : PeerNo × Finished). scores_about about x.1.scores) (only_by by peers)
 
--- the lowest and the highest of them
+-- the lowest and the highest of these scores
 abbrev pub span_between : Chosen → Chosen → List (PeerNo × Finished) → Option Span
 span_between by about peers = span_of (scores_between by about peers)
 
--- the lowest that some peers score some others over the run, and when first
+-- the lowest scores that each of some peers gives each of some others over the run, and the lowest of all these
 abbrev pub opinions_between : Chosen → Chosen → List PairOpinion → List PairOpinion
 opinions_between by about pairs =
     filter (λ (x : PairOpinion). is_chosen by x.by && is_chosen about x.of) pairs
@@ -45,7 +45,7 @@ lowest_between by about pairs =
 
 -- ---- links
 
--- how much there is of a kind over links from some peers to some others
+-- the links from some peers to some others, and the total of a kind over them
 abbrev pub links_between : Chosen → Chosen → List LinkCounts → List LinkCounts
 links_between from to links =
     filter (λ (x : LinkCounts). is_chosen from x.from && is_chosen to x.to) links
@@ -56,19 +56,19 @@ over_between from to kind links =
 
 -- ---- meshes
 
--- how many places some meshes have for some peers
+-- how many places some peers hold in some meshes
 abbrev pub places_for : Chosen → List (Topic × PeerNo) → ℕ
 places_for to members = length (filter (λ (x : Topic × PeerNo). is_chosen to x.1) members)
 
--- how many places the meshes of some peers have at the end for some others, a place for each topic
+-- how many places some peers hold in the meshes of some others at the end: one for each mesh that a peer is in
 abbrev pub places_between : Chosen → Chosen → List (PeerNo × Finished) → ℕ
 places_between from to peers =
     fold (λ sum (x : PeerNo × Finished). plus sum (places_for to x.1.meshes)) 0 (only_by from peers)
 
--- how many members the mesh of each topic has at the end that a peer is subscribed to
+-- the sizes of a peer's meshes at the end, for each topic that it is subscribed to
 abbrev pub end_sizes : Finished → List ℕ
 end_sizes f = map (members_in f.meshes) (subscribed f.trace)
 
--- the smallest and the largest of them
+-- the smallest and the largest of these sizes
 abbrev pub end_meshes : Finished → Option Span
 end_meshes f = span_of (map pos (end_sizes f))

@@ -1,4 +1,4 @@
--- Which peers count, by their names.
+-- How peers are chosen by their names.
 use Rattle.std.specs.Prelude.{ℕ, Bool, false, ◌&&◌, ◌||◌, ◌==◌, List, [], ◌∷◌, filter, length, Option, None, Some}
 use Rattle.std.specs.List.{list_any, slice_split}
 use Rattle.gs_base.specs.declared.names.PeerNo.{PeerNo}
@@ -12,7 +12,7 @@ use Rattle.gs_reach.specs.declared.chosen.Chosen.TheVariants as chosen
 use Rattle.gs_figure_sheets.specs.declared.choice.Choice.{Choice}
 use Rattle.gs_figure_sheets.specs.declared.choice.Choice.TheVariants.{Any, Named}
 
--- the text that names them
+-- the text that names the peers of a choice
 abbrev pub spelled : Choice → Option (List ℕ)
 spelled Any = None
 spelled (Named words) = Some words.now
@@ -22,17 +22,17 @@ abbrev pub is_star : List ℕ → Bool
 is_star [] = false
 is_star (first ∷ rest) = first == 42 && length rest == 0
 
--- a word is a name, or has a `*` at its end that stands for the rest of the name
+-- a word equals a name, or ends with a `*` that stands for the rest of the name
 abbrev pub fits : List ℕ → List ℕ → Bool
 fits [] name = length name == 0
 fits (first ∷ rest) [] = is_star (first ∷ rest)
 fits (first ∷ rest) (byte ∷ more) = is_star (first ∷ rest) || (first == byte && fits rest more)
 
--- one of several words, which have commas between them, fits a name
+-- a name matches one of several words, which are separated by commas
 abbrev pub is_named : List ℕ → List ℕ → Bool
 is_named words name = list_any (λ word. fits word name) (slice_split (λ byte. byte == 44) words)
 
--- the peers of a run whose names fit
+-- the peers of a run whose names match one of several words
 abbrev pub peers_named : Plan → List (PeerNo × Finished) → List ℕ → List PeerNo
 peers_named plan peers words = filter (λ p. is_named words (name_of plan p)) (numbers_of peers)
 

@@ -4,7 +4,7 @@ use Rattle.gs_sheets.specs.declared.sheet.Column.{Column as SheetColumn}
 use Rattle.gs_figure_sheets.specs.declared.columns.Column.{Column}
 use Rattle.gs_figure_sheets.specs.declared.columns.Column.TheVariants.{Topic, Payload, Publisher, Verdict, Publishers, At, Subscribers, Reached, Missed, First, Median, Ninetieth, NinetyNinth, Last, Outcome, Within, Pairs, Share, Peer, Round, From, To, Rpcs, Bytes, MeshMembers, MeshPlaces, LowestScore, LowestInRun, LowestAt}
 
--- its name in CSV and JSON
+-- the name of a column in CSV and JSON
 abbrev pub column_name : Column → List ℕ
 column_name Topic = codes "topic"
 column_name Payload = codes "payload"
@@ -36,7 +36,7 @@ column_name LowestScore = codes "lowest_score"
 column_name LowestInRun = codes "lowest_in_run"
 column_name LowestAt = codes "lowest_at_ms"
 
--- its header in a table for a person
+-- the header of a column in a table for a person
 abbrev pub header_text : Column → List ℕ
 header_text Topic = codes "topic"
 header_text Payload = codes "payload"
@@ -71,7 +71,7 @@ header_text LowestAt = codes "lowest at ms"
 abbrev pub column_of : Column → SheetColumn
 column_of column = record { name = column_name column; header = header_text column }
 
--- the columns of a message, of limits of rounds, and of parts of all subscribers
+-- the columns of the sheets of messages, of limits of rounds, and of parts of all subscribers
 unfoldable pub message_columns : List Column
 message_columns =
     Topic ∷ Payload ∷ Publisher ∷ Verdict
@@ -83,7 +83,7 @@ limit_columns = Outcome ∷ Within ∷ Pairs ∷ Share ∷ []
 unfoldable pub spread_columns : List Column
 spread_columns = Pairs ∷ First ∷ Median ∷ Ninetieth ∷ NinetyNinth ∷ Last ∷ []
 
--- the columns of groups
+-- the columns of the sheet of groups
 unfoldable pub group_columns : List Column
 group_columns =
     From ∷ To ∷ Pairs ∷ Reached ∷ Missed ∷ Share ∷ Median ∷ Ninetieth ∷ Last

@@ -1,4 +1,4 @@
--- The sheets of a run that are wished for.
+-- The sheets of a run that are wanted.
 use Rattle.std.specs.Prelude.{List, [], ◌++◌, map, Option, None, Some}
 use Rattle.gs_counts.specs.declared.run.RunCounts.{RunCounts}
 use Rattle.gs_counts.specs.Runs.{run_counts}
@@ -22,9 +22,9 @@ use Rattle.gs_figure_sheets.specs.Parties.{GroupWish, groups_of, parties_of}
 use Rattle.gs_figure_sheets.specs.Reach.{sheets_among}
 use Rattle.gs_figure_sheets.specs.Wishes.{Wishes}
 
--- ---- the ordinary sheets
+-- ---- the sheets about a whole run
 
--- What is known of a run: what the traces of some peers say, and where these are not all, also what all say.
+-- the counts from the traces of all peers, if only some peers are chosen
 abbrev pub all_counts : Plan → Report → Chosen → Option RunCounts
 all_counts plan report Any = None
 all_counts plan report (Only peers) = Some (run_counts plan report Any)
@@ -51,12 +51,12 @@ dealt_in report found = record {
   opinions = found.known.opinions.pairs;
 }
 
--- the rows of peers and groups
+-- the rows of peers, of groups, and of all peers together
 abbrev pub lines_of_peers : Plan → Report → Chosen → Found → List Line
 lines_of_peers plan report among found =
     peer_lines plan found.parties (figures_of_peers found.known among report.peers.items)
 
--- how far messages came, then peers, then groups
+-- which subscribers messages reached, then peers, then groups
 abbrev pub sheets_with : Plan → Report → Wishes → Chosen → Found → List Sheet
 sheets_with plan report w among found =
     sheets_among plan (chosen_by plan report w.by) among found.messages
@@ -84,7 +84,7 @@ abbrev pub link_sheets : Plan → Report → Wishes → Chosen → List Sheet
 link_sheets plan report w among =
     figure_pages w.layout Links [] (map (link_line plan) (links_at among (run_counts plan report among).links))
 
--- by what they are of
+-- the sheets about a subject
 abbrev pub sheets_for : Subject → Plan → Report → Wishes → Chosen → List Sheet
 sheets_for Run = run_sheets
 sheets_for Rounds = round_sheets

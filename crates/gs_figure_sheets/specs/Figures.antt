@@ -1,4 +1,4 @@
--- The figures of rows: the column of each.
+-- The column of each figure in a row.
 use Rattle.std.specs.Prelude.{ℕ, codes, List, [], ◌++◌, option_map, slice_get, unwrap_or}
 use Rattle.gs_counts.specs.declared.kind.Kind.{Kind}
 use Rattle.gs_counts.specs.declared.kind.Kind.TheVariants.{RpcsHeard, New, Duplicates, Ignored, Rejected, Signed, OffTopic, PayloadBytesNew, PayloadBytesAgain, SubscriptionsHeard, IhaveHeard, IdsOffered, IwantHeard, IdsAsked, GraftHeard, PruneHeard, RpcsSent, BytesSent, RawBytesSent, MessageBytesSent, ControlBytesSent, SubscriptionBytesSent, SubscriptionsSent, MessagesPushed, MessagesAnswered, IhaveSent, IdsOfferedSent, IwantSent, IdsAskedSent, GraftSent, PruneSent, RpcsGraylisted, RpcsLate, Faults, GraftRefusedExplicit, GraftRefusedBackoff, GraftRefusedScore, GraftRefusedFull, IdsNotSentScore, IdsNotSentTooOften, IdsNotSentNotKept, PromisesBroken, RefusedLines, Delivered, Grafted, GraftedByNeighbour, GraftedByHeartbeat, Pruned, PrunedByNeighbour, PrunedByHeartbeat, PrunedByLoss}
@@ -7,9 +7,9 @@ use Rattle.gs_figure_sheets.specs.declared.figure.Figure.{Figure}
 use Rattle.gs_figure_sheets.specs.declared.figure.Figure.TheVariants.{Of, BytesHeard, RawBytesHeard, SmallestMesh, LargestMesh, LowestScore, HighestScore, LowestInRun, LowestAt, LowestOf}
 use Rattle.gs_figure_sheets.specs.declared.party.Party.{Party}
 
--- ---- what is counted
+-- ---- counts
 
--- the name of its column in CSV and JSON
+-- the name of a count's column in CSV and JSON
 abbrev pub kind_name : Kind → List ℕ
 kind_name RpcsHeard = codes "rpcs_heard"
 kind_name New = codes "new"
@@ -63,7 +63,7 @@ kind_name PrunedByNeighbour = codes "pruned_by_neighbour"
 kind_name PrunedByHeartbeat = codes "pruned_by_heartbeat"
 kind_name PrunedByLoss = codes "pruned_by_loss"
 
--- the header of its column in a table for a person
+-- the header of a count's column in a table for a person
 abbrev pub kind_header : Kind → List ℕ
 kind_header RpcsHeard = codes "RPCs"
 kind_header New = codes "new"
@@ -143,11 +143,11 @@ figure_header LowestInRun = codes "lowest in run"
 figure_header LowestAt = codes "lowest at ms"
 figure_header (LowestOf place) = codes "lowest of "
 
--- the name of the group at a place, and the empty one where there is none
+-- the name of the group at an index, or the empty name if there is none
 abbrev pub party_name : List Party → ℕ → List ℕ
 party_name parties place = unwrap_or (option_map (λ (x : Party). x.name) (slice_get parties place)) []
 
--- what stands after the words of a figure: the name of the group that it is of
+-- what follows the words of a figure: the name of its group, or nothing
 abbrev pub figure_end : List Party → Figure → List ℕ
 figure_end parties (Of kind) = []
 figure_end parties BytesHeard = []

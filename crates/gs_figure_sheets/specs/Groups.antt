@@ -1,4 +1,4 @@
--- What passes from group to group, as a sheet.
+-- The sheet of what passes from group to group.
 use Rattle.std.specs.Prelude.{ℕ, Bool, false, ◌==◌, if◌then◌else◌, codes, List, [], ◌∷◌, ◌++◌, length, map, Option}
 use Rattle.std.specs.List.{flat_map}
 use Rattle.gs_base.specs.declared.names.PeerNo.{PeerNo}
@@ -25,7 +25,7 @@ use Rattle.gs_figure_sheets.specs.Columns.{column_of, group_columns}
 use Rattle.gs_figure_sheets.specs.Reach.{count_or_none, share_of, share_or_none}
 use Rattle.gs_figure_sheets.specs.Rows.{lowest_in, moment_of, score_of, score_or_none}
 
--- what rows of groups are made of
+-- the facts that the rows of groups need
 pub record Dealt : Type 0 where
   pub messages : List MessageReach
   pub links : List LinkCounts
@@ -49,7 +49,7 @@ abbrev pub is_nobody : Chosen → Bool
 is_nobody Any = false
 is_nobody (Only peers) = length peers == 0
 
--- what these peers did: of nobody nothing is known, not even that it is 0
+-- a count of what these peers did: missing if there is no peer, because then not even a 0 is known
 abbrev pub count_by : Chosen → ℕ → Value
 count_by by n = if is_nobody by then Missing else Count n
 
@@ -59,7 +59,7 @@ sent_values links from to =
     count_by from.told (over_between from.told to.peers RpcsSent links)
     ∷ count_by from.told (over_between from.told to.peers BytesSent links) ∷ []
 
--- how many places the meshes of one group have for another, and in all
+-- how many places another group holds in the meshes of one group, and how many places those meshes have in all
 abbrev pub mesh_values : List (PeerNo × Finished) → Party → Party → List Value
 mesh_values peers from to =
     count_by from.told (places_between from.told to.peers peers)
@@ -89,7 +89,7 @@ group_row d from to =
     ++ mesh_values d.peers from to
     ++ score_values (span_between from.told to.peers d.peers) (lowest_between from.told to.peers d.opinions)
 
--- each from each
+-- the rows from one group to each group
 abbrev pub rows_from : Dealt → List Party → Party → List (List Value)
 rows_from d parties from = map (group_row d from) parties
 
@@ -105,7 +105,7 @@ group_sheet d parties = record {
   rows = group_rows d parties;
 }
 
--- only where there are groups
+-- the sheet of groups, if there are groups
 abbrev pub group_pages : Dealt → List Party → List Sheet
 group_pages d [] = []
 group_pages d (first ∷ more) = group_sheet d (first ∷ more) ∷ []

@@ -1,4 +1,4 @@
--- The rows of figures: of peers and groups, of rounds, of topics and of links.
+-- The rows of figures: for peers and groups, for rounds, for topics and for links.
 use Rattle.std.specs.Prelude.{ℕ, ℤ, ◌||◌, codes, List, [], ◌∷◌, ◌++◌, filter, map, Option, None, Some, option_map, slice_get, unwrap_or}
 use Rattle.gs_base.specs.declared.names.PeerNo.{PeerNo}
 use Rattle.gs_counts.specs.declared.counts.Counts.{Counts}
@@ -28,7 +28,7 @@ use Rattle.gs_figure_sheets.specs.declared.party.Party.{Party}
 use Rattle.gs_figure_sheets.specs.Between.{end_meshes, lowest_between, only_by, span_between}
 use Rattle.gs_figure_sheets.specs.Rows.{joined_of, only_counts}
 
--- a row that says nothing of groups
+-- a row that does not report groups
 abbrev pub line_of : List Label → Option RowFigures → Line
 line_of labels figures = record { labels = labels; figures = figures; groups = [] }
 
@@ -38,15 +38,15 @@ line_of labels figures = record { labels = labels; figures = figures; groups = [
 abbrev pub all_links : Known → List LinkCounts
 all_links known = elim known.all [ None ↦ known.counts.links | Some all ↦ all.links ]
 
--- what was counted of a peer
+-- the counts of a peer
 abbrev pub counts_of_peer : Known → PeerNo → Counts
 counts_of_peer known p = unwrap_or (option_map (λ (x : PeerCounts). x.counts) (slice_get known.counts.peers p.0)) no_counts
 
--- one peer
+-- a choice of only one peer
 abbrev pub just : PeerNo → Chosen
 just p = Only (p ∷ [])
 
--- the figures of a peer, where the traces of some peers count
+-- the figures of a peer, where only the traces of some peers count
 abbrev pub peer_figures : Known → Chosen → List (PeerNo × Finished) → PeerNo × Finished → PeerFigures
 peer_figures known among peers x = record {
   peer = x.0;
@@ -60,26 +60,26 @@ peer_figures known among peers x = record {
   };
 }
 
--- those of each of them
+-- the figures of each peer whose trace counts
 abbrev pub figures_of_peers : Known → Chosen → List (PeerNo × Finished) → List PeerFigures
 figures_of_peers known among peers = map (peer_figures known among peers) (only_by among peers)
 
--- a row that is of a name
+-- a row with a name as its label
 abbrev pub named_line : List ℕ → Option RowFigures → Line
 named_line name figures = line_of (Named name ∷ []) figures
 
 abbrev pub peer_line : Plan → PeerFigures → Line
 peer_line plan row = named_line (name_of plan row.peer) (Some row.figures)
 
--- a group's rows in one, where it has some
+-- the row of a group: the rows of its peers, joined, if there are any
 abbrev pub party_line : List PeerFigures → Party → Line
 party_line rows g = named_line (codes "(" ++ g.name ++ codes ")") (joined_of g.told rows)
 
--- the rows of all in one, where there are some
+-- the row of all peers: their rows, joined, if there are any
 abbrev pub all_line : List PeerFigures → Line
 all_line rows = named_line (codes "(all)") (joined_of Any rows)
 
--- each peer, each group, and all
+-- the rows of each peer, of each group, and of all peers together
 abbrev pub peer_lines : Plan → List Party → List PeerFigures → List Line
 peer_lines plan parties rows = map (peer_line plan) rows ++ map (party_line rows) parties ++ all_line rows ∷ []
 
@@ -124,6 +124,6 @@ topic_line x = named_line x.topic.0 (Some (only_counts x.counts))
 abbrev pub link_line : Plan → LinkCounts → Line
 link_line plan x = line_of (Named (name_of plan x.from) ∷ Named (name_of plan x.to) ∷ []) (Some (only_counts x.counts))
 
--- those with an end whose trace counts
+-- those links on which the trace of at least one end counts
 abbrev pub links_at : Chosen → List LinkCounts → List LinkCounts
 links_at among links = filter (λ (x : LinkCounts). is_chosen among x.from || is_chosen among x.to) links

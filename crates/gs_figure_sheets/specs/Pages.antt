@@ -1,4 +1,4 @@
--- Sheets of figures: one of all sections, or one for each.
+-- Sheets of figures: one sheet for all sections, or one for each section.
 use Rattle.std.specs.Prelude.{ℕ, codes, List, [], ◌∷◌, ◌++◌, length, map}
 use Rattle.gs_sheets.specs.declared.sheet.Sheet.{Sheet}
 use Rattle.gs_figure_sheets.specs.declared.columns.Column.{Column}
@@ -31,7 +31,7 @@ subject_name Rounds = codes "rounds"
 subject_name Topics = codes "topics"
 subject_name Links = codes "links"
 
--- the line above a table of a section
+-- the line above a table of one section
 abbrev pub peers_title : Section → List ℕ
 peers_title Heard = codes "What each peer heard"
 peers_title Sent = codes "What each peer sent"
@@ -71,14 +71,14 @@ whole_title Links = codes "What happened over each link"
 
 -- ---- sheets
 
--- the columns that say what a row is of
+-- the columns that say what a row is about
 abbrev pub label_columns : Subject → List Column
 label_columns Run = Peer ∷ []
 label_columns Rounds = Round ∷ []
 label_columns Topics = Topic ∷ []
 label_columns Links = From ∷ To ∷ []
 
--- how many of them are of names
+-- how many of these columns have names
 abbrev pub name_columns : Subject → ℕ
 name_columns Run = 1
 name_columns Rounds = 0
@@ -103,7 +103,7 @@ abbrev pub whole_sheet : Subject → List Party → List Line → Sheet
 whole_sheet subject parties lines =
     figure_sheet subject parties lines (subject_name subject) (whole_title subject) (whole_figures subject (length parties))
 
--- a sheet for each section for a person, and else one
+-- one sheet for each section for a person, and one for all sections for a program
 abbrev pub figure_pages : Layout → Subject → List Party → List Line → List Sheet
 figure_pages Person subject parties lines = map (section_sheet subject parties lines) all_sections
 figure_pages Data subject parties lines = whole_sheet subject parties lines ∷ []

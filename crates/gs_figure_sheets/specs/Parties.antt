@@ -1,4 +1,4 @@
--- Groups of peers, by the names of these.
+-- Groups of peers, by the names of the peers.
 use Rattle.std.specs.Prelude.{ℕ, List, filter, map, Some}
 use Rattle.gs_plan.specs.declared.plan.Plan.{Plan}
 use Rattle.gs_report.specs.declared.report.Report.{Report}
@@ -17,7 +17,7 @@ pub record GroupWish : Type 0 where
 abbrev pub group_wish : Group → GroupWish
 group_wish group = record { name = group.name.now; peers = group.peers.now }
 
--- the peers of a group in a run, and those of them that some choice leaves
+-- a group of a run: its name, its peers, and those of them whose traces count
 abbrev pub party_of : Plan → Report → Chosen → GroupWish → Party
 party_of plan report among g = record {
   name = g.name;
@@ -28,6 +28,6 @@ party_of plan report among g = record {
 abbrev pub parties_of : Plan → Report → Chosen → List GroupWish → List Party
 parties_of plan report among groups = map (party_of plan report among) groups
 
--- only their peers
+-- the peers of each group
 abbrev pub groups_of : Plan → Report → List GroupWish → List Chosen
 groups_of plan report groups = map (λ (g : GroupWish). chosen_by plan report (Some g.peers)) groups

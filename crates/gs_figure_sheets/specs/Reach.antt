@@ -1,4 +1,4 @@
--- How far each message came, as sheets.
+-- The sheets that say how many subscribers each message reached.
 use Rattle.std.specs.Prelude.{ℕ, ◌*◌, ◌/◌, ◌==◌, min, if◌then◌else◌, codes, List, [], ◌∷◌, ◌++◌, length, map, Option, None, Some}
 use Rattle.gs_base.specs.declared.verdict.Verdict.{Verdict}
 use Rattle.gs_base.specs.declared.verdict.Verdict.TheVariants.{Accept, Reject, Ignore}
@@ -21,7 +21,7 @@ use Rattle.gs_figure_sheets.specs.Columns.{column_of, limit_columns, message_col
 
 -- ---- values
 
--- what validation says of a payload
+-- the word for the result of validation of a payload
 abbrev pub verdict_word : Verdict → List ℕ
 verdict_word Accept = codes "accept"
 verdict_word Reject = codes "reject"
@@ -37,29 +37,29 @@ abbrev pub share_or_none : Option ℕ → Value
 share_or_none None = Missing
 share_or_none (Some n) = Share n
 
--- a part of a number in hundredths of a per cent, rounded down: none where there is nothing to share
+-- a part of a number in hundredths of a per cent, rounded down: None if the number is 0
 abbrev pub share_of : ℕ → ℕ → Option ℕ
 share_of part all = if all == 0 then None else Some (min 10_000 (part * 10_000 / all))
 
 -- ---- rows
 
--- what a message is: its topic, its payload, who published it, and what validation says of it
+-- what a message is: its topic, its payload, who published it, and the result of its validation
 abbrev pub message_names : Plan → MessageReach → List Value
 message_names plan m =
     Name m.publication.topic.0 ∷ Payload m.publication.payload ∷ Name (name_of plan m.publication.peer)
     ∷ Name (verdict_word m.verdict) ∷ []
 
--- how many it missed: none where it should reach nobody, since validation does not accept it
+-- how many subscribers it missed: None if validation does not accept it, because then it should reach nobody
 abbrev pub missed_by : MessageReach → Option ℕ
 missed_by m = if is_accepted m.verdict then Some (missed m.pairs) else None
 
--- how many published it, when, how many could be reached, were reached and were missed
+-- how many peers published it, when, and how many subscribers could be reached, were reached and were missed
 abbrev pub message_counts : MessageReach → List Value
 message_counts m =
     Count m.publishers ∷ Count m.publication.at.0 ∷ Count (length m.pairs) ∷ Count (reached m.pairs)
     ∷ count_or_none (missed_by m) ∷ []
 
--- in how many rounds the first, half, 90 in a hundred and all of them were
+-- in how many rounds the first subscriber, half, 90% and all of them were reached
 abbrev pub message_rounds : Spread → List Value
 message_rounds s =
     count_or_none s.first ∷ count_or_none s.median ∷ count_or_none s.ninetieth ∷ count_or_none s.last ∷ []
@@ -67,14 +67,14 @@ message_rounds s =
 unfoldable pub message_row : Plan → MessageReach → List Value
 message_row plan m = message_names plan m ++ message_counts m ++ message_rounds (spread m.pairs)
 
--- how many pairs an outcome has, within a number of rounds where it is a limit, and their share of all
+-- an outcome, its limit of rounds if it has one, how many pairs have this outcome, and their share of all pairs
 abbrev pub outcome_row : List ℕ → Value → ℕ → ℕ → List Value
 outcome_row word limit part all = Name word ∷ limit ∷ Count part ∷ share_or_none (share_of part all) ∷ []
 
 abbrev pub within_row : ℕ → Within → List Value
 within_row all w = outcome_row (codes "reached") (Count w.limit) w.reached all
 
--- those that were reached within each limit, those that were not reached, and all
+-- the pairs that were reached within each limit, the pairs that were not reached, and all pairs
 unfoldable pub limit_rows : Distribution → List (List Value)
 limit_rows d =
     map (within_row d.pairs) d.within
@@ -116,7 +116,7 @@ spread_sheet d = record {
   rows = spread_row d ∷ [];
 }
 
--- of messages by some peers and of subscribers among some peers
+-- the sheets for messages by some peers and for subscribers among some peers
 abbrev pub sheets_among : Plan → Chosen → Chosen → List MessageReach → List Sheet
 sheets_among plan by among ms =
     message_sheet plan (chosen_messages by among ms)
@@ -124,7 +124,7 @@ sheets_among plan by among ms =
     ∷ spread_sheet (distribution (accepted_pairs by among ms))
     ∷ []
 
--- the same by the names of the peers
+-- the same sheets, where names choose the peers
 abbrev pub reach_sheets : Plan → Report → Option (List ℕ) → Option (List ℕ) → List Sheet
 reach_sheets plan report by among =
     sheets_among plan (chosen_by plan report by) (chosen_by plan report among) (messages plan report)

@@ -1,4 +1,4 @@
--- What stands in a row of figures, and the sums of several rows.
+-- The values in a row of figures, and the sums of several rows.
 use Rattle.std.specs.Prelude.{ℕ, ℤ, int_lt, nat_lt, not, ◌&&◌, ◌||◌, Bool, if◌then◌else◌, List, ◌++◌, filter, fold, map, Option, None, Some, slice_get, unwrap_or}
 use Rattle.std.specs.List.{list_any}
 use Rattle.gs_counts.specs.declared.counts.Counts.{Counts}
@@ -47,11 +47,11 @@ abbrev pub moment_of : Option Lowest → Option ℕ
 moment_of None = None
 moment_of (Some lowest) = Some lowest.at.0
 
--- the score at a place, if one stands there
+-- the score at an index, if there is one
 abbrev pub score_at : List (Option ℤ) → ℕ → Option ℤ
 score_at scores place = unwrap_or (slice_get scores place) None
 
--- what stands for a figure of these, with the lowest scores of groups
+-- the value of a figure, from the figures of a row and the lowest scores of groups
 abbrev pub value_in : RowFigures → List (Option ℤ) → Figure → Value
 value_in figures groups (Of kind) = Count (count_at figures.counts kind)
 value_in figures groups BytesHeard = Count figures.bytes_heard
@@ -64,7 +64,7 @@ value_in figures groups LowestInRun = score_or_none (score_of figures.lowest)
 value_in figures groups LowestAt = count_or_none (moment_of figures.lowest)
 value_in figures groups (LowestOf place) = score_or_none (score_at groups place)
 
--- what stands in a row for a figure: nothing where the row is of nobody
+-- the value of a figure in a row: missing if the row is about nobody
 abbrev pub value_of : Line → Figure → Value
 value_of line figure = elim line.figures [ None ↦ Missing | Some figures ↦ value_in figures line.groups figure ]
 
@@ -72,13 +72,13 @@ abbrev pub label_value : Label → Value
 label_value (labels.Named name) = Name name
 label_value (labels.Numbered n) = Count n
 
--- a row: what it is of, and then its figures
+-- a row: what it is about, and then its figures
 unfoldable pub line_row : List Figure → Line → List Value
 line_row figures line = map label_value line.labels ++ map (value_of line) figures
 
 -- ---- sums
 
--- nothing was counted, and there is no mesh and no score
+-- figures in which each count is 0, and there is no mesh and no score
 abbrev pub no_figures : RowFigures
 no_figures = record {
   counts = no_counts;
@@ -89,7 +89,7 @@ no_figures = record {
   lowest = None;
 }
 
--- what was counted, and nothing else
+-- figures with these counts, and nothing else
 abbrev pub only_counts : Counts → RowFigures
 only_counts counts = record {
   counts = counts;
@@ -100,16 +100,16 @@ only_counts counts = record {
   lowest = None;
 }
 
--- the span of both
+-- the span that includes both
 abbrev pub joined_spans : Option Span → Option Span → Option Span
 joined_spans a None = a
 joined_spans a (Some b) = widened (widened a b.lowest) b.highest
 
--- a score is lower than another, or as low and earlier
+-- a score is lower than another, or equal and earlier
 abbrev pub is_below : Lowest → Lowest → Bool
 is_below a b = int_lt a.score b.score || (not (int_lt b.score a.score) && nat_lt a.at.0 b.at.0)
 
--- the lower one, and of two that are as low the earlier
+-- the lower one of two scores, or the earlier one if they are equal
 abbrev pub lower : Option Lowest → Option Lowest → Option Lowest
 lower None b = b
 lower (Some a) None = Some a
@@ -125,7 +125,7 @@ joined a b = record {
   lowest = lower a.lowest b.lowest;
 }
 
--- those of these peers that are chosen, in one
+-- the joined figures of the chosen ones among these peers
 abbrev pub sum_of : Chosen → List PeerFigures → RowFigures
 sum_of chosen rows =
     fold (λ sum (row : PeerFigures). joined sum row.figures) no_figures (filter (λ (row : PeerFigures). is_chosen chosen row.peer) rows)
@@ -134,6 +134,6 @@ sum_of chosen rows =
 abbrev pub has_chosen : Chosen → List PeerFigures → Bool
 has_chosen chosen rows = list_any (λ (row : PeerFigures). is_chosen chosen row.peer) rows
 
--- the same in one, where there are some: of nobody nothing is known, not even that it is 0
+-- the same, or None if no peer is chosen, because then not even a 0 is known
 abbrev pub joined_of : Chosen → List PeerFigures → Option RowFigures
 joined_of chosen rows = if has_chosen chosen rows then Some (sum_of chosen rows) else None

@@ -12,9 +12,9 @@ use Rattle.gs_figure_sheets.specs.declared.section.Section.TheVariants.{Heard, S
 use Rattle.gs_figure_sheets.specs.declared.wanted.Subject.{Subject}
 use Rattle.gs_figure_sheets.specs.declared.wanted.Subject.TheVariants.{Run, Rounds, Topics, Links}
 
--- ---- what concerns links and topics
+-- ---- what belongs to links and topics
 
--- what a happening of a kind concerns beside its peer
+-- what an event of a kind belongs to, in addition to its peer
 abbrev pub concern_of : Kind → Concern
 concern_of RpcsHeard = OnLink
 concern_of New = OnBoth
@@ -105,7 +105,7 @@ heard_figures =
     ∷ Of PruneHeard
     ∷ []
 
--- what it sends
+-- what a peer sends
 unfoldable pub sent_figures : List Figure
 sent_figures =
     Of RpcsSent
@@ -125,7 +125,7 @@ sent_figures =
     ∷ Of PruneSent
     ∷ []
 
--- what comes to nothing, and why
+-- what has no effect, and why
 unfoldable pub nothing_figures : List Figure
 nothing_figures =
     Of RpcsGraylisted
@@ -142,7 +142,7 @@ nothing_figures =
     ∷ Of RefusedLines
     ∷ []
 
--- what is delivered, meshes and scores
+-- deliveries, meshes and scores
 unfoldable pub state_figures : List Figure
 state_figures =
     Of Delivered
@@ -170,7 +170,7 @@ all_figures State = state_figures
 abbrev pub all_sections : List Section
 all_sections = Heard ∷ Sent ∷ Nothing ∷ State ∷ []
 
--- ---- which stand in a row
+-- ---- which figures stand in a row
 
 -- a row of a round has each count, the sizes of meshes, and the lowest score
 abbrev pub is_of_round : Figure → Bool
@@ -185,7 +185,7 @@ is_of_round LowestInRun = false
 is_of_round LowestAt = false
 is_of_round (LowestOf place) = true
 
--- what is counted of these concerns, and nothing else
+-- a figure is a count, and the predicate holds for what its events belong to
 abbrev pub is_count_of : (Concern → Bool) → Figure → Bool
 is_count_of counts (Of kind) = counts (concern_of kind)
 is_count_of counts BytesHeard = false
@@ -205,7 +205,7 @@ is_shown Rounds figure = is_of_round figure
 is_shown Topics figure = is_count_of is_on_topic figure
 is_shown Links figure = is_count_of is_on_link figure
 
--- the lowest scores of groups stand after the state of rounds
+-- the lowest scores of groups follow the state of rounds
 abbrev pub has_groups : Subject → Section → Bool
 has_groups Run section = false
 has_groups Rounds Heard = false
@@ -215,16 +215,16 @@ has_groups Rounds State = true
 has_groups Topics section = false
 has_groups Links section = false
 
--- those of this many groups, if they stand there
+-- the lowest score of each group, if the rows have them, where count is the number of groups
 abbrev pub group_figures : Bool → ℕ → List Figure
 group_figures true count = map LowestOf (range_with_len 0 count)
 group_figures false count = []
 
--- the figures of a section, with this many groups
+-- the figures of a section, where count is the number of groups
 abbrev pub section_figures : Subject → ℕ → Section → List Figure
 section_figures subject count section =
     filter (is_shown subject) (all_figures section) ++ group_figures (has_groups subject section) count
 
--- those of all sections
+-- the figures of all sections
 abbrev pub whole_figures : Subject → ℕ → List Figure
 whole_figures subject count = flat_map (section_figures subject count) all_sections

@@ -11,10 +11,10 @@ use Rattle.gs_figure_sheets.specs.Parties.{GroupWish}
 abbrev pub IsFilled : Sheet → Type 0
 IsFilled s = AllByRecursion (λ (row : List Value). length row ≡ length s.columns) s.rows
 
--- no two columns have one header
+-- no two columns have the same header
 abbrev pub HasOwnHeaders : Sheet → Type 0
 HasOwnHeaders s = IsDistinct same_bytes (map (λ (c : Column). c.header) s.columns)
 
--- no two groups have one name
+-- no two groups have the same name
 abbrev pub HaveOwnNames : List GroupWish → Type 0
 HaveOwnNames groups = IsDistinct same_bytes (map (λ (g : GroupWish). g.name) groups)

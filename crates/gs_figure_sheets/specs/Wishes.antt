@@ -1,4 +1,4 @@
--- What sheets are wished for.
+-- Which sheets the options ask for.
 use Rattle.std.specs.Prelude.{ℕ, List, map, Option}
 use Rattle.gs_figure_sheets.specs.declared.wanted.Layout.{Layout}
 use Rattle.gs_figure_sheets.specs.declared.wanted.Subject.{Subject}
@@ -7,9 +7,9 @@ use Rattle.gs_figure_sheets.specs.Choices.{spelled}
 use Rattle.gs_figure_sheets.specs.Parties.{GroupWish, group_wish}
 
 pub record Wishes : Type 0 where
-  -- messages that the peers of these names published first: all where it is None
+  -- only messages that the peers with these names published first, or all messages if it is None
   pub by : Option (List ℕ)
-  -- only what the traces of the peers of these names say: of all where it is None
+  -- only the traces of the peers with these names, or all traces if it is None
   pub among : Option (List ℕ)
   pub groups : List GroupWish
   pub subject : Subject

@@ -1,4 +1,4 @@
-//! What some peers of a run say of others, or to them.
+//! Figures between some peers of a run and others: scores, traffic over links, and places in meshes.
 ghost use Rattle.std.specs.Prelude.{◌≡◌, [], ◌∷◌, ◌++◌, fold, map, Some};
 ghost use Rattle.gs_counts.specs.Meshes.{span_of, widened};
 ghost use Rattle.gs_counts.specs.Rows.{count_at, plus};
@@ -12,7 +12,7 @@ use gs_opinions::{Lowest, PairOpinion};
 use gs_reach::Chosen;
 use gs_report::Finished;
 
-/// The lowest and the highest score that some peers give some others at the end.
+/// Returns the lowest and the highest score that some peers give some others at the end.
 pub(crate) fn span_between(
     by: &Chosen,
     about: &Chosen,
@@ -27,7 +27,7 @@ pub(crate) fn span_between(
     span
 }
 
-/// A span with what a peer scores some others, if it is one of some peers.
+/// Returns a span, widened by the scores that a peer gives some others, if that peer is chosen.
 fn widened_by_peer(
     span: Option<Span>,
     by: &Chosen,
@@ -42,7 +42,7 @@ fn widened_by_peer(
     widened_by_all(span, about, peer.1.scores.as_slice())
 }
 
-/// A span with those of these scores that some peers have.
+/// Returns a span, widened by those of these scores that some peers receive.
 fn widened_by_all(span: Option<Span>, about: &Chosen, scores: &[(PeerNo, i128)]) -> Option<Span>
     ensures { result ≡ fold widened span (scores_about about.now scores.now) }
 {
@@ -62,7 +62,7 @@ fn widened_by_one(span: &Option<Span>, about: &Chosen, score: &(PeerNo, i128)) -
     widened(span, &score.1)
 }
 
-/// The lowest score that some peers give some others over the run, and when first.
+/// Returns the lowest score that some peers give some others over the run, and when it is first given.
 pub(crate) fn lowest_between(by: &Chosen, about: &Chosen, pairs: &[PairOpinion]) -> Option<Lowest>
     ensures { result ≡ lowest_between by.now about.now pairs.now }
 {
@@ -88,7 +88,7 @@ fn lowered(
     lower(lowest, &Some(pair.lowest))
 }
 
-/// How much there is of a kind over links from some peers to some others.
+/// Returns the total of a kind over all links from some peers to some others.
 pub(crate) fn over_between(from: &Chosen, to: &Chosen, kind: Kind, links: &[LinkCounts]) -> u64
     ensures { result ≡ over_between from.now to.now kind links.now }
 {
@@ -109,7 +109,8 @@ fn with_link(sum: u64, from: &Chosen, to: &Chosen, kind: Kind, link: &LinkCounts
     sum.saturating_add(link.counts.of(kind))
 }
 
-/// How many places the meshes of some peers have at the end for some others, a place for each topic.
+/// Returns how many places the peers `to` hold in the meshes of the peers `from` at the end. A peer holds one place in each
+/// mesh that it is in.
 pub(crate) fn places_between(from: &Chosen, to: &Chosen, peers: &[(PeerNo, Finished)]) -> u64
     ensures { result ≡ places_between from.now to.now peers.now }
 {
@@ -130,7 +131,7 @@ fn with_places(sum: u64, from: &Chosen, to: &Chosen, peer: &(PeerNo, Finished)) 
     sum.saturating_add(places_for(to, peer.1.meshes.as_slice()))
 }
 
-/// How many places some meshes have for some peers.
+/// Returns how many places some peers hold in some meshes.
 fn places_for(to: &Chosen, members: &[(Topic, PeerNo)]) -> u64
     ensures { result ≡ places_for to.now members.now }
 {

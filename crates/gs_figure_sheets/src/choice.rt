@@ -1,4 +1,4 @@
-//! Which peers count, by their names.
+//! Chooses peers by their names.
 ghost use Rattle.std.specs.Prelude.{◌≡◌, ◌++◌, filter, IfOk};
 ghost use Rattle.gs_reach.specs.Messages.{numbers_of};
 ghost use Rattle.gs_report.specs.Text.{name_of};
@@ -10,19 +10,19 @@ use gs_reach::Chosen;
 use gs_report::{Finished, Report, name_of};
 use std::alloc::{AllocError, Global};
 
-/// Which peers count.
+/// Which peers are chosen.
 #[derive(Clone, Copy, Debug, Drop)]
 pub enum Choice<'a> {
     /// Each peer.
     Any,
-    /// Those that this text names: names with commas between them. A `*` at the end of one stands for any rest.
+    /// The peers that this text names. Names are separated by commas, and a `*` at the end of one stands for any rest.
     Named(&'a str),
 }
 
-/// The peers of a run that a choice names, by the names that the plan gives them.
+/// Returns the peers of a run that a choice names. The names are those in the plan.
 ///
 /// # Errors
-/// `AllocError` where there was no memory for their numbers.
+/// `AllocError` when out of memory.
 pub fn chosen_by(
     alloc: Global,
     plan: &Plan,
@@ -40,10 +40,10 @@ pub fn chosen_by(
     }
 }
 
-/// The peers among these whose names some words name.
+/// Returns those of these peers whose names match one of several words. Commas separate the words.
 ///
 /// # Errors
-/// `AllocError` where there was no memory for their numbers.
+/// `AllocError` when out of memory.
 pub(crate) fn peers_named(
     alloc: Global,
     plan: &Plan,
@@ -61,7 +61,7 @@ pub(crate) fn peers_named(
     Ok(list)
 }
 
-/// Whether one of several words, which have commas between them, fits a name.
+/// Says whether a name matches one of several words. Commas separate the words.
 fn is_named(words: &str, name: &str) -> bool
     ensures { result ≡ is_named words.now name.now }
 {
@@ -70,8 +70,8 @@ fn is_named(words: &str, name: &str) -> bool
         .any(|word| fits(word.as_bytes(), name.as_bytes()))
 }
 
-/// Whether a word is a name, or has a `*` at its end that stands for the rest of the name. It calls itself as often as the
-/// name has bytes at most.
+/// Says whether a word equals a name, or ends with a `*` that stands for the rest of the name. It recurses at most once for
+/// each byte of the name.
 fn fits(word: &[u8], name: &[u8]) -> bool
     ensures { result ≡ fits word.now name.now }
 {
@@ -84,7 +84,7 @@ fn fits(word: &[u8], name: &[u8]) -> bool
     }
 }
 
-/// Whether a word is only a `*`.
+/// Says whether a word is only a `*`.
 fn is_star(word: &[u8]) -> bool
     ensures { result ≡ is_star word.now }
 {

@@ -11,61 +11,61 @@ use std::alloc::{AllocError, Global};
 pub enum Column {
     Topic,
     Payload,
-    /// Who published a message first.
+    /// The peer that published a message first.
     Publisher,
-    /// What validation says of a payload.
+    /// The result of validation of a payload.
     Verdict,
     /// How many peers published a message at its moment.
     Publishers,
-    /// When, in milliseconds.
+    /// When a message was first published, in milliseconds from the start of the run.
     At,
-    /// How many peers could be reached.
+    /// How many subscribers a message could reach.
     Subscribers,
     Reached,
     Missed,
     /// In how many rounds the first subscriber was reached.
     First,
-    /// In how many rounds half of the subscribers were.
+    /// In how many rounds half of the subscribers were reached.
     Median,
-    /// In how many rounds 90 in a hundred were.
+    /// In how many rounds 90% of the subscribers were reached.
     Ninetieth,
-    /// In how many rounds 99 in a hundred were.
+    /// In how many rounds 99% of the subscribers were reached.
     NinetyNinth,
-    /// In how many rounds all were.
+    /// In how many rounds all subscribers were reached.
     Last,
     /// Whether subscribers were reached or missed.
     Outcome,
-    /// Within how many rounds.
+    /// Within how many rounds subscribers were reached.
     Within,
     /// How many pairs of a message and a subscriber there are.
     Pairs,
-    /// Which share of all pairs that is, in per cent.
+    /// The share of all pairs, in per cent.
     Share,
-    /// Which peer a row is of.
+    /// The peer or group that a row is about.
     Peer,
-    /// Which round a row is of.
+    /// The round that a row is about.
     Round,
-    /// From which peer or group.
+    /// The first end of a row: the sender of a link, or the first group.
     From,
-    /// To which peer or group.
+    /// The second end of a row: the receiver of a link, or the second group.
     To,
     /// How many RPCs are sent.
     Rpcs,
     /// How many bytes are sent.
     Bytes,
-    /// How many places meshes have for members of a group.
+    /// How many places in meshes the members of a group hold.
     MeshMembers,
-    /// How many places they have in all.
+    /// How many places those meshes have in all.
     MeshPlaces,
     /// The lowest score that is given at the end.
     LowestScore,
     /// The lowest score that is given over the run.
     LowestInRun,
-    /// When that one is given first.
+    /// When that score is first given, in milliseconds from the start of the run.
     LowestAt,
 }
 
-/// The name of a column in CSV and JSON.
+/// Returns the name of a column in CSV and JSON.
 fn column_name(column: Column) -> &'static str
     ensures { result.now ≡ column_name column }
 {
@@ -102,7 +102,7 @@ fn column_name(column: Column) -> &'static str
     }
 }
 
-/// The header of a column in a table for a person.
+/// Returns the header of a column in a table for a person.
 fn header_text(column: Column) -> &'static str
     ensures { result.now ≡ header_text column }
 {
@@ -139,7 +139,7 @@ fn header_text(column: Column) -> &'static str
     }
 }
 
-/// The columns of a message.
+/// Returns the columns of the sheet of messages.
 pub(crate) fn message_columns(alloc: Global) -> Result<Seq<SheetColumn>, AllocError>
     ensures { IfOk result (λ columns. columns ≡ map column_of message_columns) }
 {
@@ -169,7 +169,7 @@ fn message_list(alloc: Global) -> Result<Vec<Column>, AllocError>
     Ok(list)
 }
 
-/// The columns of limits of rounds.
+/// Returns the columns of the sheet of limits of rounds.
 pub(crate) fn limit_columns(alloc: Global) -> Result<Seq<SheetColumn>, AllocError>
     ensures { IfOk result (λ columns. columns ≡ map column_of limit_columns) }
 {
@@ -190,7 +190,7 @@ fn limit_list(alloc: Global) -> Result<Vec<Column>, AllocError>
     Ok(list)
 }
 
-/// The columns of parts of all subscribers.
+/// Returns the columns of the sheet that says in how many rounds parts of all subscribers were reached.
 pub(crate) fn spread_columns(alloc: Global) -> Result<Seq<SheetColumn>, AllocError>
     ensures { IfOk result (λ columns. columns ≡ map column_of spread_columns) }
 {
@@ -213,7 +213,7 @@ fn spread_list(alloc: Global) -> Result<Vec<Column>, AllocError>
     Ok(list)
 }
 
-/// The columns of groups.
+/// Returns the columns of the sheet of groups.
 pub(crate) fn group_columns(alloc: Global) -> Result<Seq<SheetColumn>, AllocError>
     ensures { IfOk result (λ columns. columns ≡ map column_of group_columns) }
 {
@@ -256,10 +256,10 @@ fn columns_of(alloc: Global, columns: &[Column]) -> Result<Seq<SheetColumn>, All
     Ok(list)
 }
 
-/// A column with its name and its header.
+/// Returns a column with its name and its header.
 ///
 /// # Errors
-/// `AllocError` where there was no memory for them.
+/// `AllocError` when out of memory.
 pub(crate) fn column_of(alloc: Global, column: Column) -> Result<SheetColumn, AllocError>
     ensures { IfOk result (λ made. made ≡ column_of column) }
 {

@@ -1,10 +1,10 @@
-//! What happenings of a kind concern beside their peer.
+//! Whether events that are counted belong to a link, to a topic, to both or to neither.
 ghost use Rattle.std.specs.Prelude.{◌≡◌};
 ghost use Rattle.gs_figure_sheets.specs.Sections.{concern_of, is_on_link, is_on_topic};
 
 use gs_counts::Kind;
 
-/// What a happening concerns beside its peer.
+/// What an event that is counted belongs to, in addition to its peer.
 #[derive(Clone, Copy, Debug, PartialEq, Eq)]
 pub enum Concern {
     OnLink,
@@ -14,7 +14,7 @@ pub enum Concern {
 }
 
 impl Concern {
-    /// What happenings of a kind concern.
+    /// Returns what events of a kind belong to.
     pub(crate) fn of(kind: Kind) -> Concern
         ensures { result ≡ concern_of kind }
     {

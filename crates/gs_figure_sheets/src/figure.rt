@@ -1,4 +1,4 @@
-//! The figures of rows, and their columns.
+//! The figures in rows, and their columns.
 ghost use Rattle.std.specs.Prelude.{◌≡◌, ◌++◌, IfOk};
 ghost use Rattle.gs_figure_sheets.specs.Figures.{figure_column, figure_end, figure_header, figure_name, kind_header, kind_name, party_name};
 
@@ -8,14 +8,14 @@ use gs_counts::Kind;
 use gs_sheets::Column as SheetColumn;
 use std::alloc::{AllocError, Global};
 
-/// A figure of a row.
+/// A figure in a row.
 #[derive(Clone, Copy, Debug, PartialEq, Eq)]
 pub enum Figure {
-    /// How often or how much happened of a kind.
+    /// A count: how often, or how much, something of a kind happened.
     Of(Kind),
     /// How many bytes a peer's neighbours put on their links to it.
     BytesHeard,
-    /// Those of them that the script put there as they are.
+    /// How many of these are raw bytes, which the script put on a link.
     RawBytesHeard,
     /// How many members the smallest mesh has.
     SmallestMesh,
@@ -27,13 +27,13 @@ pub enum Figure {
     HighestScore,
     /// The lowest score that is given over the run.
     LowestInRun,
-    /// When that one is given first, in milliseconds.
+    /// When that score is first given, in milliseconds from the start of the run.
     LowestAt,
-    /// The lowest score that is given one of the group at a place.
+    /// The lowest score that a member of one group receives. The number is the group's index.
     LowestOf(usize),
 }
 
-/// The name of the column of what is counted, in CSV and JSON.
+/// Returns the name of a count's column in CSV and JSON.
 fn kind_name(kind: Kind) -> &'static str
     ensures { result.now ≡ kind_name kind }
 {
@@ -92,7 +92,7 @@ fn kind_name(kind: Kind) -> &'static str
     }
 }
 
-/// The header of the column of what is counted, in a table for a person.
+/// Returns the header of a count's column in a table for a person.
 fn kind_header(kind: Kind) -> &'static str
     ensures { result.now ≡ kind_header kind }
 {
@@ -151,7 +151,7 @@ fn kind_header(kind: Kind) -> &'static str
     }
 }
 
-/// The name of a figure's column.
+/// Returns the name of a figure's column.
 fn figure_name(figure: Figure) -> &'static str
     ensures { result.now ≡ figure_name figure }
 {
@@ -169,7 +169,7 @@ fn figure_name(figure: Figure) -> &'static str
     }
 }
 
-/// The header of a figure's column.
+/// Returns the header of a figure's column.
 fn figure_header(figure: Figure) -> &'static str
     ensures { result.now ≡ figure_header figure }
 {
@@ -187,7 +187,7 @@ fn figure_header(figure: Figure) -> &'static str
     }
 }
 
-/// The name of the group at a place, and the empty one where there is none.
+/// Returns the name of the group at an index, or the empty name if there is none.
 fn party_name(parties: &[Party], place: usize) -> &[u8]
     ensures { result.now ≡ party_name parties.now place }
 {
@@ -197,7 +197,7 @@ fn party_name(parties: &[Party], place: usize) -> &[u8]
     }
 }
 
-/// What stands after the words of a figure: the name of the group that it is of.
+/// Returns what follows the words of a figure: the name of its group, or nothing.
 fn figure_end(parties: &[Party], figure: Figure) -> &[u8]
     ensures { result.now ≡ figure_end parties.now figure }
 {
@@ -215,10 +215,10 @@ fn figure_end(parties: &[Party], figure: Figure) -> &[u8]
     }
 }
 
-/// The column of a figure.
+/// Returns the column of a figure.
 ///
 /// # Errors
-/// `AllocError` where there was no memory for it.
+/// `AllocError` when out of memory.
 pub(crate) fn figure_column(
     alloc: Global,
     parties: &[Party],
@@ -232,7 +232,7 @@ pub(crate) fn figure_column(
     Ok(SheetColumn { name, header })
 }
 
-/// A text and another after it.
+/// Returns a text with another after it.
 fn joined_text(alloc: Global, text: &[u8], end: &[u8]) -> Result<Seq<u8>, AllocError>
     ensures { IfOk result (λ joined. joined ≡ text.now ++ end.now) }
 {

@@ -1,4 +1,4 @@
-//! What stands in rows of figures, and the sums of several rows.
+//! The values in rows of figures, and the sums of several rows.
 ghost use Rattle.std.specs.Prelude.{◌≡◌, ◌++◌, ◌∷◌, [], fold, IfOk, map, OnOk};
 ghost use Rattle.gs_figure_sheets.specs.Lines.{line_of};
 ghost use Rattle.gs_figure_sheets.specs.Rows.{has_chosen, highest_in, joined, joined_of, label_value, line_row, lowest_in, moment_of, no_figures, only_counts, score_at, score_of, score_or_none, sum_of, value_in, value_of, whole_or_none};
@@ -19,13 +19,13 @@ pub struct RowFigures {
     pub counts: Counts,
     /// How many bytes neighbours put on their links to the peers of the row.
     pub bytes_heard: u64,
-    /// Those of them that the script put there as they are.
+    /// How many of these are raw bytes, which the script put on a link.
     pub raw_bytes_heard: u64,
     /// How many members the smallest and the largest mesh have.
     pub meshes: Option<Span>,
-    /// The lowest and the highest score that are given. Of a round only the lowest is known, which stands for both.
+    /// The lowest and the highest score that are given. For a round only the lowest is known, and it stands for both.
     pub scores: Option<Span>,
-    /// The lowest score that is given over the run, and when first.
+    /// The lowest score that is given over the run, and when it is first given.
     pub lowest: Option<Lowest>,
 }
 
@@ -36,7 +36,7 @@ pub struct PeerFigures {
     pub figures: RowFigures,
 }
 
-/// What a row is of.
+/// What a row is about.
 #[derive(Debug, Drop)]
 pub enum Label {
     Named(Seq<u8>),
@@ -47,14 +47,14 @@ pub enum Label {
 #[derive(Debug, Drop)]
 pub struct Line {
     pub labels: Seq<Label>,
-    /// None where the row is of nobody: then not even a count is known.
+    /// None if the row is about nobody: then not even a count is known.
     pub figures: Option<RowFigures>,
-    /// The lowest score that is given one of each group, where the row says it.
+    /// For each group, the lowest score that one of its members receives. It is empty if the row does not report groups.
     pub groups: Seq<Option<i128>>,
 }
 
 impl Line {
-    /// A row that says nothing of groups.
+    /// Returns a row that does not report groups.
     pub(crate) fn of(alloc: Global, labels: Seq<Label>, figures: Option<RowFigures>) -> Line
         ensures { result ≡ line_of labels figures }
     {
@@ -66,7 +66,7 @@ impl Line {
     }
 }
 
-/// Nothing was counted, and there is no mesh and no score.
+/// Returns figures in which each count is 0, and there is no mesh and no score.
 fn no_figures() -> RowFigures
     ensures { result ≡ no_figures }
 {
@@ -74,7 +74,7 @@ fn no_figures() -> RowFigures
 }
 
 impl RowFigures {
-    /// What was counted, and nothing else.
+    /// Returns figures with these counts, and nothing else.
     pub(crate) fn only_counts(counts: Counts) -> RowFigures
         ensures { result ≡ only_counts counts }
     {
@@ -88,7 +88,7 @@ impl RowFigures {
         }
     }
 
-    /// The figures of both.
+    /// Returns the figures of both rows, joined.
     fn joined(&self, other: &RowFigures) -> RowFigures
         ensures { result ≡ joined self.now other.now }
     {
@@ -103,7 +103,7 @@ impl RowFigures {
     }
 }
 
-/// The figures of those of these peers that are chosen, in one. None where none of them is.
+/// Returns the joined figures of the chosen ones among these peers, or None if none of them is chosen.
 pub(crate) fn joined_of(chosen: &Chosen, rows: &[PeerFigures]) -> Option<RowFigures>
     ensures { result ≡ joined_of chosen.now rows.now }
 {
@@ -113,14 +113,14 @@ pub(crate) fn joined_of(chosen: &Chosen, rows: &[PeerFigures]) -> Option<RowFigu
     None
 }
 
-/// Whether some of these peers are chosen.
+/// Says whether some of these peers are chosen.
 fn has_chosen(chosen: &Chosen, rows: &[PeerFigures]) -> bool
     ensures { result ≡ has_chosen chosen.now rows.now }
 {
     rows.iter().any(|row| chosen.contains(row.peer))
 }
 
-/// The figures of those of these peers that are chosen, in one.
+/// Returns the joined figures of the chosen ones among these peers.
 fn sum_of(chosen: &Chosen, rows: &[PeerFigures]) -> RowFigures
     ensures { result ≡ sum_of chosen.now rows.now }
 {
@@ -189,7 +189,7 @@ pub(crate) fn moment_of(lowest: &Option<Lowest>) -> Option<u64>
     }
 }
 
-/// The score at a place, if one stands there.
+/// Returns the score at an index, if there is one.
 fn score_at(scores: &[Option<i128>], place: usize) -> Option<i128>
     ensures { result ≡ score_at scores.now place }
 {
@@ -199,7 +199,7 @@ fn score_at(scores: &[Option<i128>], place: usize) -> Option<i128>
     }
 }
 
-/// What stands in a row for a figure. Nothing does where the row is of nobody.
+/// Returns the value of a figure in a row. It is missing if the row is about nobody.
 fn value_of(line: &Line, figure: Figure) -> Value
     ensures { result ≡ value_of line.now figure }
 {
@@ -209,7 +209,7 @@ fn value_of(line: &Line, figure: Figure) -> Value
     }
 }
 
-/// What stands for a figure of these, with the lowest scores of groups.
+/// Returns the value of a figure, from the figures of a row and the lowest scores of groups.
 fn value_in(figures: &RowFigures, groups: &[Option<i128>], figure: Figure) -> Value
     ensures { result ≡ value_in figures.now groups.now figure }
 {
@@ -227,10 +227,10 @@ fn value_in(figures: &RowFigures, groups: &[Option<i128>], figure: Figure) -> Va
     }
 }
 
-/// A row of these figures, after what it is of.
+/// Returns a row: what it is about, and then these figures.
 ///
 /// # Errors
-/// `AllocError` where there was no memory for it.
+/// `AllocError` when out of memory.
 #[tactic(auto, unfolding(crate::specs::Rows::line_row))]
 pub(crate) fn line_row(alloc: Global, figures: &[Figure], line: &Line) -> Result<Row, AllocError>
     ensures { IfOk result (λ row. row ≡ line_row figures.now line.now) }

@@ -1,4 +1,4 @@
-//! What the ordinary sheets of a run are made of.
+//! The facts that the sheets about a whole run need.
 ghost use Rattle.std.specs.Prelude.{◌≡◌, IfOk};
 ghost use Rattle.std.specs.List.{AllByRecursion};
 ghost use Rattle.gs_base.specs.declared.names.PeerNo.{PeerNo as PeerNoValue};
@@ -21,7 +21,7 @@ use gs_reach::{Chosen, MessageReach, messages_of};
 use gs_report::Report;
 use std::alloc::{AllocError, Global};
 
-/// What the ordinary sheets of a run are made of.
+/// The facts that the sheets about a whole run need.
 #[derive(Drop)]
 pub struct Found {
     pub messages: Seq<MessageReach>,
@@ -30,10 +30,10 @@ pub struct Found {
 }
 
 impl Found {
-    /// That of a run, where the traces of some peers count.
+    /// Returns the facts about a run, where only the traces of some peers count.
     ///
     /// # Errors
-    /// `AllocError` where there was no memory for it.
+    /// `AllocError` when out of memory.
     pub(crate) fn of(
         alloc: Global,
         plan: &Plan,
@@ -55,10 +55,10 @@ impl Found {
         })
     }
 
-    /// The rows of peers and groups.
+    /// Returns the rows of peers, of groups, and of all peers together.
     ///
     /// # Errors
-    /// `AllocError` where there was no memory for them.
+    /// `AllocError` when out of memory.
     pub(crate) fn peer_lines(
         &self,
         alloc: Global,
@@ -72,7 +72,7 @@ impl Found {
         peer_lines(alloc, plan, self.parties.as_slice(), &rows)
     }
 
-    /// What rows of groups are made of.
+    /// Returns the facts that the rows of groups need.
     pub(crate) fn dealings<'a>(&'a self, report: &'a Report) -> Dealings<'a>
         ensures { dealt_of result ≡ dealt_in report.now self.now }
     {

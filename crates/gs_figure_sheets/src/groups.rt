@@ -1,4 +1,4 @@
-//! What passes from group to group, as a sheet.
+//! The sheet of what passes from group to group.
 ghost use Rattle.std.specs.Prelude.{◌≡◌, [], ◌∷◌, ◌++◌, IfOk, map, OnOk};
 ghost use Rattle.std.specs.List.{flat_map};
 ghost use Rattle.gs_figure_sheets.specs.Between.{lowest_between, span_between};
@@ -17,7 +17,7 @@ use gs_report::Finished;
 use gs_sheets::{Row, Sheet, Value, bytes_of};
 use std::alloc::{AllocError, Global};
 
-/// What rows of groups are made of.
+/// The facts that the rows of groups need.
 #[derive(Clone, Copy, Drop)]
 pub(crate) struct Dealings<'a> {
     pub messages: &'a [MessageReach],
@@ -26,10 +26,10 @@ pub(crate) struct Dealings<'a> {
     pub opinions: &'a [PairOpinion],
 }
 
-/// Adds the sheet of groups, if there are groups.
+/// Appends the sheet of groups, if there are groups.
 ///
 /// # Errors
-/// `AllocError` where there was no memory for it.
+/// `AllocError` when out of memory.
 pub(crate) fn push_groups(
     alloc: Global,
     sheets: &mut Seq<Sheet>,
@@ -79,7 +79,7 @@ fn group_rows(
     Ok(rows)
 }
 
-/// Adds the rows from one group to each.
+/// Appends the rows from one group to each group.
 fn push_rows_from(
     alloc: Global,
     rows: &mut Seq<Row>,
@@ -120,7 +120,7 @@ fn push_names(alloc: Global, row: &mut Row, from: &Party, to: &Party) -> Result<
     push_name(alloc, row, to.name.as_slice())
 }
 
-/// Adds how many subscribers in one group were reached by messages of another, and in how many rounds.
+/// Appends how many subscribers in one group were reached by messages of another, and in how many rounds.
 fn push_reached(
     alloc: Global,
     row: &mut Row,
@@ -155,7 +155,7 @@ fn push_spread(row: &mut Row, spread: &Spread) -> Result<(), AllocError>
     row.push(count_or_none(spread.last))
 }
 
-/// Adds what goes over links from one group to another.
+/// Appends what goes over links from one group to another.
 fn push_sent(
     row: &mut Row,
     links: &[LinkCounts],
@@ -170,7 +170,7 @@ fn push_sent(
     row.push(count_by(&from.told, bytes))
 }
 
-/// What these peers did. Of nobody nothing is known, not even that it is 0.
+/// Returns a count of what these peers did. It is missing if there is no peer, because then not even a 0 is known.
 fn count_by(by: &Chosen, number: u64) -> Value
     ensures { result ≡ count_by by.now number }
 {
@@ -180,7 +180,7 @@ fn count_by(by: &Chosen, number: u64) -> Value
     Value::Count(number)
 }
 
-/// Whether no peer is chosen.
+/// Says whether no peer is chosen.
 fn is_nobody(chosen: &Chosen) -> bool
     ensures { result ≡ is_nobody chosen.now }
 {
@@ -190,7 +190,7 @@ fn is_nobody(chosen: &Chosen) -> bool
     }
 }
 
-/// Adds how many places the meshes of one group have for another, and in all.
+/// Appends how many places another group holds in the meshes of one group, and how many places those meshes have in all.
 fn push_meshes(
     row: &mut Row,
     peers: &[(PeerNo, Finished)],
@@ -205,7 +205,7 @@ fn push_meshes(
     row.push(count_by(&from.told, places))
 }
 
-/// Adds the lowest score that one group gives another, at the end and over the run.
+/// Appends the lowest score that one group gives another, at the end and over the run.
 fn push_scores(
     row: &mut Row,
     dealings: &Dealings<'_>,

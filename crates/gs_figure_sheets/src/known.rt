@@ -1,4 +1,4 @@
-//! What is known of a run.
+//! What is known about a run.
 ghost use Rattle.std.specs.Prelude.{◌≡◌, [], IfOk, option_map, slice_get, unwrap_or};
 ghost use Rattle.std.specs.List.{AllByRecursion};
 ghost use Rattle.gs_base.specs.declared.names.PeerNo.{PeerNo as PeerNoValue};
@@ -16,20 +16,20 @@ use gs_reach::Chosen;
 use gs_report::Report;
 use std::alloc::{AllocError, Global};
 
-/// What is known of a run, as far as the traces of some peers say it.
+/// What is known about a run from the traces of some peers.
 #[derive(Drop)]
 pub struct Known {
     pub counts: RunCounts,
-    /// What the traces of all peers say, where those are not all.
+    /// The counts from the traces of all peers, if only some peers are chosen. Else `counts` has them.
     pub all: Option<RunCounts>,
     pub opinions: Opinions,
 }
 
 impl Known {
-    /// What the traces of some peers say.
+    /// Returns what the traces of some peers show about a run.
     ///
     /// # Errors
-    /// `AllocError` where there was no memory for it.
+    /// `AllocError` when out of memory.
     pub(crate) fn of(
         alloc: Global,
         plan: &Plan,
@@ -50,7 +50,7 @@ impl Known {
         })
     }
 
-    /// What all peers put on links.
+    /// Returns what all peers put on links.
     pub(crate) fn all_links(&self) -> &[LinkCounts]
         ensures { result.now ≡ all_links self.now }
     {
@@ -60,7 +60,7 @@ impl Known {
         }
     }
 
-    /// What was counted of a peer.
+    /// Returns the counts of a peer.
     pub(crate) fn counts_of_peer(&self, peer: PeerNo) -> Counts
         ensures { result ≡ counts_of_peer self.now peer }
     {
@@ -71,7 +71,7 @@ impl Known {
     }
 }
 
-/// What the traces of all peers say, where some are chosen.
+/// Returns the counts from the traces of all peers, if only some peers are chosen.
 fn all_counts(
     alloc: Global,
     plan: &Plan,

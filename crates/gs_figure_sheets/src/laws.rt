@@ -1,4 +1,4 @@
-//! What the definitions of sheets say in other words.
+//! Laws about the definitions of sheets.
 ghost use Rattle.std.specs.Prelude.{◌≡◌};
 ghost use Rattle.std.specs.List.{AllByRecursion};
 ghost use Rattle.gs_plan.specs.declared.plan.Plan.{Plan as PlanValue};
@@ -14,7 +14,7 @@ pub fn rows_have_a_value_for_each_column()
         → AllByRecursion IsFilled (figure_sheets plan report w) }
 {}
 
-/// No two columns of a table for a person have one header, where no two groups have one name.
+/// No two columns of a table for a person have the same header, if no two groups have the same name.
 pub fn columns_of_a_table_have_headers_of_their_own()
     ensures { (plan : PlanValue) (report : ReportValue) (w : Wishes)
         → w.layout ≡ Person → HaveOwnNames w.groups → AllByRecursion HasOwnHeaders (figure_sheets plan report w) }

@@ -1,5 +1,6 @@
-//! Figures of a run as sheets: how far each message came, and in how many rounds; what each peer heard and sent, what came to
-//! nothing and why, its meshes and its scores; the same by rounds, by topics and by links; and what passes from group to group.
+//! Figures of a run as sheets. They state which subscribers each message reached, and in how many rounds. They state what
+//! each peer heard and sent, what had no effect and why, its meshes and its scores. The same figures come by rounds, by
+//! topics and by links. Another sheet states what passes from group to group.
 #![tactic(auto)]
 
 mod between;

@@ -1,4 +1,4 @@
-//! The rows of figures: of peers and groups, of rounds, of topics and of links.
+//! The rows of figures: for peers and groups, for rounds, for topics and for links.
 ghost use Rattle.std.specs.Prelude.{◌≡◌, [], ◌∷◌, ◌++◌, codes, IfOk, map, OnOk, option_map};
 ghost use Rattle.gs_figure_sheets.specs.Between.{only_by};
 ghost use Rattle.gs_figure_sheets.specs.declared.figures.Label.TheVariants.{Named};
@@ -20,10 +20,10 @@ use std::alloc::{AllocError, Global};
 
 // ---- peers
 
-/// The figures of each peer whose trace counts.
+/// Returns the figures of each peer whose trace counts.
 ///
 /// # Errors
-/// `AllocError` where there was no memory for them.
+/// `AllocError` when out of memory.
 pub(crate) fn figures_of_peers(
     alloc: Global,
     known: &Known,
@@ -67,7 +67,7 @@ fn peer_figures(
     })
 }
 
-/// One peer.
+/// Returns a choice of only one peer.
 fn just(alloc: Global, peer: PeerNo) -> Result<Chosen, AllocError>
     ensures { IfOk result (λ chosen. chosen ≡ just peer) }
 {
@@ -75,10 +75,10 @@ fn just(alloc: Global, peer: PeerNo) -> Result<Chosen, AllocError>
     Ok(Chosen::Only(peers))
 }
 
-/// The rows of peers, then those of groups, and last that of all.
+/// Returns the rows of peers, then the rows of groups, and last the row of all peers together.
 ///
 /// # Errors
-/// `AllocError` where there was no memory for them.
+/// `AllocError` when out of memory.
 pub(crate) fn peer_lines(
     alloc: Global,
     plan: &Plan,
@@ -128,7 +128,7 @@ fn peer_line(alloc: Global, plan: &Plan, row: &PeerFigures) -> Result<Line, Allo
     named_line(alloc, name_of(plan, row.peer).as_bytes(), Some(row.figures))
 }
 
-/// A row that is of a name.
+/// Returns a row with a name as its label.
 fn named_line(alloc: Global, name: &[u8], figures: Option<RowFigures>) -> Result<Line, AllocError>
     ensures { IfOk result (λ line. line ≡ named_line name.now figures) }
 {
@@ -137,7 +137,7 @@ fn named_line(alloc: Global, name: &[u8], figures: Option<RowFigures>) -> Result
     Ok(Line::of(alloc, labels, figures))
 }
 
-/// The rows of a group in one, where it has some.
+/// Returns the row of a group: the rows of its peers, joined, if there are any.
 fn party_line(alloc: Global, rows: &[PeerFigures], party: &Party) -> Result<Line, AllocError>
     ensures { IfOk result (λ line. line ≡ party_line rows.now party.now) }
 {
@@ -155,7 +155,7 @@ fn bracketed(alloc: Global, name: &[u8]) -> Result<Vec<u8>, AllocError>
     Ok(text)
 }
 
-/// The rows of all in one, where there are some.
+/// Returns the row of all peers: their rows, joined, if there are any.
 fn all_line(alloc: Global, rows: &[PeerFigures]) -> Result<Line, AllocError>
     ensures { IfOk result (λ line. line ≡ all_line rows.now) }
 {
@@ -164,10 +164,10 @@ fn all_line(alloc: Global, rows: &[PeerFigures]) -> Result<Line, AllocError>
 
 // ---- rounds
 
-/// The rows of rounds.
+/// Returns the rows of rounds.
 ///
 /// # Errors
-/// `AllocError` where there was no memory for them.
+/// `AllocError` when out of memory.
 pub(crate) fn round_lines(
     alloc: Global,
     opinions: &Opinions,
@@ -191,7 +191,7 @@ fn round_line(alloc: Global, opinions: &Opinions, round: &RoundCounts) -> Result
     }
 }
 
-/// The row of a round, with the scores that were given in it.
+/// Returns the row of a round, with the scores that were given in it.
 fn round_with(alloc: Global, round: &RoundCounts, given: &RoundOpinions) -> Result<Line, AllocError>
     ensures { IfOk result (λ line. line ≡ round_with round.now given.now) }
 {
@@ -224,7 +224,7 @@ fn round_figures(round: &RoundCounts, scores: &Option<Span>) -> RowFigures
     }
 }
 
-/// A span of one value, if there is one.
+/// Returns a span of one value, if there is one.
 fn point(value: &Option<i128>) -> Option<Span>
     ensures { result ≡ option_map point value.now }
 {
@@ -237,7 +237,7 @@ fn point(value: &Option<i128>) -> Option<Span>
     }
 }
 
-/// A copy of these scores.
+/// Returns a copy of these scores.
 fn scores_in(alloc: Global, scores: &[Option<i128>]) -> Result<Seq<Option<i128>>, AllocError>
     ensures { IfOk result (λ list. list ≡ scores.now) }
 {
@@ -250,10 +250,10 @@ fn scores_in(alloc: Global, scores: &[Option<i128>]) -> Result<Seq<Option<i128>>
 
 // ---- topics and links
 
-/// The rows of topics.
+/// Returns the rows of topics.
 ///
 /// # Errors
-/// `AllocError` where there was no memory for them.
+/// `AllocError` when out of memory.
 pub(crate) fn topic_lines(alloc: Global, topics: &[TopicCounts]) -> Result<Seq<Line>, AllocError>
     ensures { IfOk result (λ lines. lines ≡ map topic_line topics.now) }
 {
@@ -274,10 +274,10 @@ fn topic_line(alloc: Global, topic: &TopicCounts) -> Result<Line, AllocError>
     )
 }
 
-/// The rows of those links that have an end whose trace counts.
+/// Returns the rows of those links on which the trace of at least one end counts.
 ///
 /// # Errors
-/// `AllocError` where there was no memory for them.
+/// `AllocError` when out of memory.
 pub(crate) fn link_lines(
     alloc: Global,
     plan: &Plan,

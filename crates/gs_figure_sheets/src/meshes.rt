@@ -14,10 +14,10 @@ use gs_report::Finished;
 use gs_rules::{Event, StoredEntry};
 use std::alloc::{AllocError, Global};
 
-/// How many members the smallest and the largest mesh have at the end, of the topics that a peer is subscribed to.
+/// Returns the sizes of a peer's smallest and largest mesh at the end, among the topics that it is subscribed to.
 ///
 /// # Errors
-/// `AllocError` where there was no memory to list these.
+/// `AllocError` when out of memory.
 pub(crate) fn end_meshes(alloc: Global, finished: &Finished) -> Result<Option<Span>, AllocError>
     ensures { IfOk result (λ span. span ≡ end_meshes finished.now) }
 {
@@ -36,14 +36,14 @@ fn span_of_meshes(topics: &[Topic], members: &[(Topic, PeerNo)]) -> Option<Span>
     span
 }
 
-/// How many of these members of meshes are in that of a topic.
+/// Returns how many of these members of meshes are in the mesh of a topic.
 fn members_in(members: &[(Topic, PeerNo)], topic: &Topic) -> u64
     ensures { result ≡ members_in members.now topic.now }
 {
     members.iter().filter(|member| member.0 == *topic).count() as u64
 }
 
-/// The topics that a peer is subscribed to after these entries.
+/// Returns the topics that a peer is subscribed to after these entries.
 fn subscribed(alloc: Global, entries: &[StoredEntry]) -> Result<Vec<Topic>, AllocError>
     ensures { IfOk result (λ topics. topics.items ≡ subscribed (reverse entries.now)) }
 {
@@ -54,7 +54,7 @@ fn subscribed(alloc: Global, entries: &[StoredEntry]) -> Result<Vec<Topic>, Allo
     Ok(topics)
 }
 
-/// Notes what an event changes of the topics that a peer is subscribed to.
+/// Notes how an event changes the topics that a peer is subscribed to.
 fn note(topics: &mut Vec<Topic>, event: &Event) -> Result<(), AllocError>
     ensures { OnOk result (topics.new.items ≡ subscribed_after event.now topics.old.items) }
 {

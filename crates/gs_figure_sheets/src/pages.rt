@@ -1,4 +1,4 @@
-//! Sheets of figures: one of all sections, or one for each.
+//! Sheets of figures: one sheet for all sections, or one for each section.
 ghost use Rattle.std.specs.Prelude.{◌≡◌, [], ◌∷◌, ◌++◌, IfOk, map, OnOk};
 ghost use Rattle.gs_figure_sheets.specs.Columns.{column_of};
 ghost use Rattle.gs_figure_sheets.specs.declared.wanted.Layout.TheVariants.{Person};
@@ -17,11 +17,11 @@ use gs_base::Seq;
 use gs_sheets::{Column as SheetColumn, Row, Sheet, bytes_of};
 use std::alloc::{AllocError, Global};
 
-/// Rows of figures of one subject.
+/// Rows of figures about one subject.
 #[derive(Clone, Copy, Debug, Drop)]
 pub(crate) struct Page<'a> {
     pub subject: Subject,
-    /// The groups that columns are of.
+    /// The groups that columns are about.
     pub parties: &'a [Party],
     pub lines: &'a [Line],
 }
@@ -92,7 +92,7 @@ fn links_title(section: Section) -> &'static str
     }
 }
 
-/// The line above a table of a section.
+/// Returns the line above a table of one section.
 fn section_title(subject: Subject, section: Section) -> &'static str
     ensures { result.now ≡ section_title subject section }
 {
@@ -104,7 +104,7 @@ fn section_title(subject: Subject, section: Section) -> &'static str
     }
 }
 
-/// The line above a table of all sections.
+/// Returns the line above a table of all sections.
 fn whole_title(subject: Subject) -> &'static str
     ensures { result.now ≡ whole_title subject }
 {
@@ -116,7 +116,7 @@ fn whole_title(subject: Subject) -> &'static str
     }
 }
 
-/// How many columns of names say what a row is of.
+/// Returns how many columns of names say what a row is about.
 fn name_columns(subject: Subject) -> usize
     ensures { result ≡ name_columns subject }
 {
@@ -128,10 +128,10 @@ fn name_columns(subject: Subject) -> usize
     }
 }
 
-/// The sheets of rows of one subject.
+/// Returns the sheets of rows about one subject.
 ///
 /// # Errors
-/// `AllocError` where there was no memory for them.
+/// `AllocError` when out of memory.
 pub(crate) fn pages_of(
     alloc: Global,
     layout: Layout,
@@ -145,10 +145,10 @@ pub(crate) fn pages_of(
     Ok(sheets)
 }
 
-/// Adds the sheets of rows of one subject: one for each section for a person, and else one of all.
+/// Appends the sheets of rows about one subject. A person gets one sheet for each section, and a program gets one for all.
 ///
 /// # Errors
-/// `AllocError` where there was no memory for them.
+/// `AllocError` when out of memory.
 pub(crate) fn push_pages(
     alloc: Global,
     sheets: &mut Seq<Sheet>,
@@ -190,7 +190,7 @@ fn whole_sheet(alloc: Global, page: &Page<'_>) -> Result<Sheet, AllocError>
     figure_sheet(alloc, page, subject_name(page.subject), title, &figures)
 }
 
-/// A sheet of these figures.
+/// Returns a sheet of these figures.
 #[tactic(auto, unfolding(crate::specs::Pages::figure_sheet))]
 fn figure_sheet(
     alloc: Global,
@@ -240,7 +240,7 @@ fn columns_of(
     Ok(columns)
 }
 
-/// Adds the columns that say what a row is of.
+/// Appends the columns that say what a row is about.
 fn push_labels(
     alloc: Global,
     columns: &mut Seq<SheetColumn>,
@@ -256,7 +256,7 @@ fn push_labels(
     }
 }
 
-/// Adds the columns of the ends of a link.
+/// Appends the columns of the two ends of a link.
 fn push_ends(alloc: Global, columns: &mut Seq<SheetColumn>) -> Result<(), AllocError>
     ensures { OnOk result (columns.new ≡ columns.old ++ map column_of (label_columns Links)) }
 {

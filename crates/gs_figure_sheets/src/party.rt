@@ -16,16 +16,16 @@ use std::alloc::{AllocError, Global};
 #[derive(Debug, Drop)]
 pub struct Party {
     pub name: Seq<u8>,
-    /// Its peers.
+    /// The peers of the group.
     pub peers: Chosen,
-    /// Those of them whose traces count.
+    /// The peers of the group whose traces count.
     pub told: Chosen,
 }
 
-/// The groups of a run, where the traces of some peers count.
+/// Returns the groups of a run, where only the traces of some peers count.
 ///
 /// # Errors
-/// `AllocError` where there was no memory for them.
+/// `AllocError` when out of memory.
 pub(crate) fn parties_of(
     alloc: Global,
     plan: &Plan,
@@ -61,7 +61,7 @@ fn party_of(
     })
 }
 
-/// Those of these peers whose traces count.
+/// Returns those of these peers whose traces count.
 fn told_of(alloc: Global, among: &Chosen, peers: &[PeerNo]) -> Result<Seq<PeerNo>, AllocError>
     ensures { IfOk result (λ list. list ≡ filter (is_chosen among.now) peers.now) }
 {
@@ -74,10 +74,10 @@ fn told_of(alloc: Global, among: &Chosen, peers: &[PeerNo]) -> Result<Seq<PeerNo
     Ok(list)
 }
 
-/// Only the peers of the groups of a run.
+/// Returns the peers of each group of a run.
 ///
 /// # Errors
-/// `AllocError` where there was no memory for them.
+/// `AllocError` when out of memory.
 pub(crate) fn groups_of(
     alloc: Global,
     plan: &Plan,

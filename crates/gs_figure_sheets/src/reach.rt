@@ -1,4 +1,4 @@
-//! How far each message came, as sheets.
+//! The sheets that say how many subscribers each message reached.
 ghost use Rattle.std.specs.Prelude.{◌≡◌, ◌++◌, ◌∷◌, [], IfOk, OnOk, map};
 ghost use Rattle.gs_figure_sheets.specs.Choices.{spelled};
 ghost use Rattle.gs_figure_sheets.specs.Reach.{limit_sheet, message_row, message_sheet, reach_sheets, sheets_among, spread_sheet};
@@ -16,12 +16,13 @@ use gs_report::Report;
 use gs_sheets::{Row, Sheet, bytes_of};
 use std::alloc::{AllocError, Global};
 
-/// How far the messages of a run came that some peers published first, among the subscribers that some peers are: a sheet
-/// with a row for each message; of all pairs of a message that validation accepts and a subscriber, how many were reached
-/// within limits of rounds; and in how many rounds parts of them were.
+/// Returns sheets that say how many subscribers the messages of a run reached. Only messages that the peers `by` published
+/// first count, and only subscribers among the peers `among`. The first sheet has a row for each message. The other two are
+/// about all pairs of a message that validation accepts and one of its subscribers. The second sheet states how many pairs
+/// were reached within limits of rounds. The third states in how many rounds parts of all pairs were reached.
 ///
 /// # Errors
-/// `AllocError` where there was no memory for them.
+/// `AllocError` when out of memory.
 pub fn reach_sheets(
     alloc: Global,
     plan: &Plan,
@@ -37,10 +38,10 @@ pub fn reach_sheets(
     sheets_among(alloc, plan, &by, &among, messages.as_slice())
 }
 
-/// The same for peers that are chosen, of these messages.
+/// Returns the same sheets for these messages and for peers that are already chosen.
 ///
 /// # Errors
-/// `AllocError` where there was no memory for them.
+/// `AllocError` when out of memory.
 pub(crate) fn sheets_among(
     alloc: Global,
     plan: &Plan,

@@ -1,4 +1,4 @@
-//! The rows of sheets of how far messages came.
+//! The rows of the sheets that say how many subscribers messages reached.
 ghost use Rattle.std.specs.Prelude.{◌≡◌, ◌++◌, ◌∷◌, [], IfOk, OnOk, map};
 ghost use Rattle.gs_reach.specs.Reached.{missed, reached};
 ghost use Rattle.gs_sheets.specs.declared.sheet.Value.{Value as ValueValue};
@@ -12,7 +12,7 @@ use gs_report::name_of;
 use gs_sheets::{Row, Value, bytes_of};
 use std::alloc::{AllocError, Global};
 
-/// What validation says of a payload.
+/// Returns the word for the result of validation of a payload.
 fn verdict_word(verdict: Verdict) -> &'static str
     ensures { result.now ≡ verdict_word verdict }
 {
@@ -41,7 +41,7 @@ pub(crate) fn share_or_none(share: Option<u64>) -> Value
     }
 }
 
-/// A part of a number in hundredths of a per cent. None where there is nothing to share.
+/// Returns a part of a number in hundredths of a per cent, rounded down. Returns None if the number is 0.
 pub(crate) fn share_of(part: u64, all: u64) -> Option<u64>
     ensures { result ≡ share_of part all }
 {
@@ -52,10 +52,10 @@ pub(crate) fn share_of(part: u64, all: u64) -> Option<u64>
     Some(share.min(10_000) as u64)
 }
 
-/// The row of a message.
+/// Returns the row of a message.
 ///
 /// # Errors
-/// `AllocError` where there was no memory for it.
+/// `AllocError` when out of memory.
 #[tactic(auto, unfolding(crate::specs::Reach::message_row))]
 pub(crate) fn message_row(
     alloc: Global,
@@ -110,7 +110,8 @@ fn push_counts(row: &mut Row, message: &MessageReach) -> Result<(), AllocError>
     row.push(count_or_none(missed_by(message)))
 }
 
-/// How many subscribers a message missed. None where it should reach nobody, since validation does not accept it.
+/// Returns how many subscribers a message missed. Returns None if validation does not accept it, because then it should
+/// reach nobody.
 fn missed_by(message: &MessageReach) -> Option<u64>
     ensures { result ≡ missed_by message.now }
 {
@@ -130,10 +131,10 @@ fn push_rounds(row: &mut Row, spread: &Spread) -> Result<(), AllocError>
     row.push(count_or_none(spread.last))
 }
 
-/// The rows of limits of rounds.
+/// Returns the rows of limits of rounds.
 ///
 /// # Errors
-/// `AllocError` where there was no memory for them.
+/// `AllocError` when out of memory.
 #[tactic(auto, unfolding(crate::specs::Reach::limit_rows))]
 pub(crate) fn limit_rows(alloc: Global, distribution: &Distribution) -> Result<Seq<Row>, AllocError>
     ensures { IfOk result (λ rows. rows ≡ limit_rows distribution.now) }
@@ -189,10 +190,10 @@ fn outcome_row(
     Ok(row)
 }
 
-/// The row of parts of all subscribers.
+/// Returns the row that says in how many rounds parts of all subscribers were reached.
 ///
 /// # Errors
-/// `AllocError` where there was no memory for it.
+/// `AllocError` when out of memory.
 #[tactic(auto, unfolding(crate::specs::Reach::spread_row))]
 pub(crate) fn spread_row(alloc: Global, distribution: &Distribution) -> Result<Row, AllocError>
     ensures { IfOk result (λ row. row ≡ spread_row distribution.now) }

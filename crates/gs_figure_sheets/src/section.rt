@@ -1,4 +1,4 @@
-//! Sections of figures, and which figures stand in the rows of which subject.
+//! Sections of figures, and which figures the rows of each subject have.
 ghost use Rattle.std.specs.Prelude.{◌≡◌, ◌++◌, ◌∷◌, [], filter, IfOk, map, OnOk, true};
 ghost use Rattle.std.specs.List.{range_with_len};
 ghost use Rattle.gs_figure_sheets.specs.declared.figure.Figure.TheVariants.{LowestOf};
@@ -15,16 +15,16 @@ use std::alloc::{AllocError, Global};
 pub enum Section {
     /// What peers heard.
     Heard,
-    /// What they sent.
+    /// What peers sent.
     Sent,
-    /// What came to nothing, and why.
+    /// What had no effect, and why.
     Nothing,
-    /// What was delivered, meshes and scores.
+    /// Deliveries, meshes and scores.
     State,
 }
 
 impl Section {
-    /// All of them, in the order of tables.
+    /// All sections, in the order of the tables.
     pub(crate) const ALL: [Section; 4] = [
         Section::Heard,
         Section::Sent,
@@ -104,7 +104,7 @@ const STATE: [Figure; 14] = [
     Figure::LowestAt,
 ];
 
-/// The figures of a section.
+/// Returns the figures of a section.
 #[tactic(auto, unfolding(crate::specs::Sections::heard_figures, crate::specs::Sections::sent_figures, crate::specs::Sections::nothing_figures, crate::specs::Sections::state_figures))]
 fn all_figures(section: Section) -> &'static [Figure]
     ensures { result.now ≡ all_figures section }
@@ -117,7 +117,7 @@ fn all_figures(section: Section) -> &'static [Figure]
     }
 }
 
-/// Whether a figure stands in the row of a round.
+/// Says whether a figure stands in the row of a round.
 fn is_of_round(figure: Figure) -> bool
     ensures { result ≡ is_of_round figure }
 {
@@ -135,7 +135,7 @@ fn is_of_round(figure: Figure) -> bool
     }
 }
 
-/// Whether a figure stands in the rows of a subject.
+/// Says whether a figure stands in the rows of a subject.
 fn is_shown(subject: Subject, figure: Figure) -> bool
     ensures { result ≡ is_shown subject figure }
 {
@@ -147,7 +147,7 @@ fn is_shown(subject: Subject, figure: Figure) -> bool
     }
 }
 
-/// Whether a figure counts what is on topics.
+/// Says whether a figure counts events that belong to topics.
 fn is_on_topic(figure: Figure) -> bool
     ensures { result ≡ is_count_of is_on_topic figure }
 {
@@ -157,7 +157,7 @@ fn is_on_topic(figure: Figure) -> bool
     }
 }
 
-/// Whether a figure counts what is on links.
+/// Says whether a figure counts events that belong to links.
 fn is_on_link(figure: Figure) -> bool
     ensures { result ≡ is_count_of is_on_link figure }
 {
@@ -167,7 +167,7 @@ fn is_on_link(figure: Figure) -> bool
     }
 }
 
-/// Whether the lowest scores of groups stand after the state of a subject's rows.
+/// Says whether the lowest scores of groups follow the figures of a section in the rows of a subject.
 fn has_groups(subject: Subject, section: Section) -> bool
     ensures { result ≡ has_groups subject section }
 {
@@ -179,10 +179,10 @@ fn has_groups(subject: Subject, section: Section) -> bool
     }
 }
 
-/// The figures of a section of a subject's rows, with this many groups.
+/// Returns the figures of a section in the rows of a subject, where `count` is the number of groups.
 ///
 /// # Errors
-/// `AllocError` where there was no memory for them.
+/// `AllocError` when out of memory.
 pub(crate) fn section_figures(
     alloc: Global,
     subject: Subject,
@@ -196,10 +196,10 @@ pub(crate) fn section_figures(
     Ok(figures)
 }
 
-/// Those of all sections.
+/// Returns the figures of all sections in the rows of a subject, where `count` is the number of groups.
 ///
 /// # Errors
-/// `AllocError` where there was no memory for them.
+/// `AllocError` when out of memory.
 pub(crate) fn whole_figures(
     alloc: Global,
     subject: Subject,
@@ -226,7 +226,7 @@ fn push_section(
     push_groups(figures, has_groups(subject, section), count)
 }
 
-/// Adds those of these figures that stand in the rows of a subject.
+/// Appends those of these figures that stand in the rows of a subject.
 fn push_shown(figures: &mut Vec<Figure>, subject: Subject, all: &[Figure]) -> Result<(), AllocError>
     ensures { OnOk result (figures.new.items ≡ figures.old.items ++ filter (is_shown subject) all.now) }
 {
@@ -238,7 +238,7 @@ fn push_shown(figures: &mut Vec<Figure>, subject: Subject, all: &[Figure]) -> Re
     Ok(())
 }
 
-/// Adds the lowest scores of groups, if they stand there.
+/// Appends the lowest scores of groups, if the rows have them.
 fn push_groups(figures: &mut Vec<Figure>, are_there: bool, count: usize) -> Result<(), AllocError>
     ensures { OnOk result (figures.new.items ≡ figures.old.items ++ group_figures are_there count) }
 {

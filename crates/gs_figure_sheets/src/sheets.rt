@@ -1,4 +1,4 @@
-//! The sheets of a run that are wanted.
+//! Makes the sheets of a run that are wanted.
 ghost use Rattle.std.specs.Prelude.{◌≡◌, ◌++◌, [], ◌∷◌, IfOk, map, OnOk};
 ghost use Rattle.std.specs.List.{AllByRecursion};
 ghost use Rattle.gs_base.specs.declared.names.PeerNo.{PeerNo as PeerNoValue};
@@ -27,10 +27,10 @@ use gs_report::Report;
 use gs_sheets::Sheet;
 use std::alloc::{AllocError, Global};
 
-/// The sheets of a run that are wanted. In each trace no entry may be earlier than the one before it.
+/// Returns the sheets of a run that are wanted. In each trace, no entry may be earlier than the one before it.
 ///
 /// # Errors
-/// `AllocError` where there was no memory for them.
+/// `AllocError` when out of memory.
 pub fn figure_sheets(
     alloc: Global,
     plan: &Plan,
@@ -64,7 +64,7 @@ fn sheets_of(
     }
 }
 
-/// How far messages came, then peers, then groups.
+/// Returns the sheets about a whole run: which subscribers messages reached, then peers, then groups.
 fn run_sheets(
     alloc: Global,
     plan: &Plan,

@@ -6,7 +6,7 @@ ghost use Rattle.gs_figure_sheets.specs.Rows.{is_below, joined_spans, lower};
 use gs_counts::Span;
 use gs_opinions::Lowest;
 
-/// A span with one value more.
+/// Returns a span that also includes one more value.
 pub(crate) fn widened(span: &Option<Span>, value: &i128) -> Option<Span>
     ensures { result ≡ widened span.now value.now }
 {
@@ -22,7 +22,7 @@ pub(crate) fn widened(span: &Option<Span>, value: &i128) -> Option<Span>
     }
 }
 
-/// The span of both.
+/// Returns the span that includes both.
 pub(crate) fn joined_spans(first: &Option<Span>, second: &Option<Span>) -> Option<Span>
     ensures { result ≡ joined_spans first.now second.now }
 {
@@ -35,7 +35,7 @@ pub(crate) fn joined_spans(first: &Option<Span>, second: &Option<Span>) -> Optio
     }
 }
 
-/// The lower one of two scores, and of two that are as low the earlier.
+/// Returns the lower one of two scores, or the earlier one if they are equal.
 pub(crate) fn lower(first: &Option<Lowest>, second: &Option<Lowest>) -> Option<Lowest>
     ensures { result ≡ lower first.now second.now }
 {
@@ -57,7 +57,7 @@ fn lower_one(one: &Lowest, other: &Lowest) -> Lowest
     *one
 }
 
-/// Whether a score is lower than another, or as low and earlier.
+/// Says whether a score is lower than another, or equal and earlier.
 fn is_below(one: &Lowest, other: &Lowest) -> bool
     ensures { result ≡ is_below one.now other.now }
 {

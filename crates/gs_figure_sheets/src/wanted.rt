@@ -2,25 +2,25 @@
 use crate::choice::Choice;
 use gs_base::Seq;
 
-/// How sheets are to be read.
+/// Who reads the sheets.
 #[derive(Clone, Copy, Debug, PartialEq, Eq)]
 pub enum Layout {
-    /// By a person: figures stand in several tables, a section each.
+    /// A person: figures stand in several tables, one for each section.
     Person,
-    /// By a program: all figures of one subject stand in one sheet.
+    /// A program: all figures about one subject stand in one sheet.
     Data,
 }
 
-/// What the rows of figures are of.
+/// What the rows of figures are about.
 #[derive(Clone, Copy, Debug, PartialEq, Eq)]
 pub enum Subject {
-    /// The run: how far messages came, what each peer did, and what passed from group to group.
+    /// The whole run: which subscribers messages reached, what each peer did, and what passed from group to group.
     Run,
-    /// Its rounds.
+    /// The rounds of the run.
     Rounds,
-    /// The topics.
+    /// The topics of the run.
     Topics,
-    /// The links.
+    /// The links of the run.
     Links,
 }
 
@@ -28,16 +28,16 @@ pub enum Subject {
 #[derive(Clone, Copy, Debug, Drop)]
 pub struct Group<'a> {
     pub name: &'a str,
-    /// The names of its peers with commas between them. A `*` at the end of one stands for any rest.
+    /// The names of its peers, separated by commas. A `*` at the end of one stands for any rest.
     pub peers: &'a str,
 }
 
 /// Which sheets are wanted.
 #[derive(Debug, Drop)]
 pub struct Wanted<'a> {
-    /// Only messages that these peers published first, in the sheets of messages.
+    /// In the sheets of messages, only messages that these peers published first count.
     pub by: Choice<'a>,
-    /// Only what the traces of these peers say.
+    /// Only the traces of these peers count.
     pub among: Choice<'a>,
     pub groups: Seq<Group<'a>>,
     pub subject: Subject,

@@ -1,5 +1,5 @@
-//! Sheets of figures of runs of small scenarios, worked out by hand. A crate is proved once more with its own tests, so these
-//! stand apart from what they call.
+//! Tests of the sheets of figures of small runs, against figures that were worked out by hand. A crate with tests of its own
+//! is proved a second time with them, so these tests have a crate of their own.
 #![tactic(auto)]
 
 #[cfg(test)]

@@ -1,4 +1,4 @@
--- What fixes what a peer does in a phase of its life, and what fixes what it says.
+-- What fixes what a peer does in a phase of its run, and what fixes what it says.
 use Rattle.std.specs.Prelude.{◌≡◌, ℕ, zero, suc, List, [], ◌∷◌, ◌++◌}
 use Rattle.std.specs.List.{AllByRecursion}
 use Rattle.gs_base.specs.declared.names.PeerNo.{PeerNo}
@@ -24,13 +24,13 @@ abbrev pub first_rounds : ℕ → Said → List Said
 first_rounds zero w = []
 first_rounds (suc r) w = said_in r w ∷ first_rounds r w
 
--- Two words are alike to a peer in a phase. In round r their first r rounds are the same, and after the last round the
--- whole words are.
+-- A peer hears two words alike in a phase. In round r the first r rounds of the words are the same, and after the last round
+-- the whole words are the same.
 abbrev pub AreHeardAlike : Phase → Said → Said → Type 0
 AreHeardAlike (Playing r) v w = first_rounds r v ≡ first_rounds r w
 AreHeardAlike Closing v w = v ≡ w
 
--- the words of each neighbour are alike to the peer there
+-- the peer hears the words of each neighbour alike in the phase
 abbrev pub NeighboursAreHeardAlike : Seat → Phase → (PeerNo → Said) → (PeerNo → Said) → Type 0
 NeighboursAreHeardAlike seat phase said other =
     AllByRecursion (λ q. AreHeardAlike phase (said q) (other q)) (links_of seat.peer)
@@ -38,12 +38,13 @@ NeighboursAreHeardAlike seat phase said other =
 -- ---- what fixes what a peer does
 
 module _ {S : Type 0} (word : S → ℕ) (after : S → S) where
-  -- each entry may come after those before it, and its choices are those of the words from this state on
+  -- each entry may come after those before it, and random words make its choices, from this state on
   abbrev pub LegalByWords : Peer → S → Entries → Type 0
   LegalByWords p first L = (last : S) × LegalOn (exact word after) p first [] L last
 
-  -- Where words make the choices, the trace before a phase, and what the neighbours said as far as the peer hears it
-  -- there, fix the trace after the phase and the lines that are refused in it.
+  -- Two things fix the trace after a phase: the trace before it, and what the neighbours said, as far as the peer hears that
+  -- in the phase. They also fix the lines that are refused there. This is about traces in which random words make the
+  -- choices.
   abbrev pub APhaseIsFixed : Type 0
   APhaseIsFixed =
       (seat : Seat) (first : S) (phase : Phase) (said other : PeerNo → Said) (before L M : Entries)
@@ -65,12 +66,12 @@ RoundsAreSaidByTheirEnd =
     → AfterRounds seat said r L refused
     → first_rounds r (out codec (later ++ L) q) ≡ first_rounds r (out codec L q)
 
--- a shutdown, about which the peer does nothing
+-- a shutdown at which the peer does nothing
 abbrev pub shutdown : Millis → Entry
 shutdown at = record { at = at; event = Shut; effects = no_effects }
 
--- By the end of the last round a peer has said all that it says, but for what its end adds: the word would be the same if
--- the peer only shut down.
+-- By the end of the last round a peer has said all that it says, except what its end adds. The word would be the same if the
+-- peer only shut down.
 abbrev pub AllIsSaidByTheEnd : Type 0
 AllIsSaidByTheEnd =
     (seat : Seat) (said : PeerNo → Said) (last L : Entries) (refused : List RefusedLine) (q : PeerNo)

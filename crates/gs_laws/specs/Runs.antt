@@ -24,15 +24,15 @@ however_run plan = record plan { workers = 1; capacity = 1 }
 abbrev pub AreAlike : Plan → Plan → Type 0
 AreAlike plan other = however_run plan ≡ however_run other
 
--- ---- lives
+-- ---- what runs leave
 
--- What the laws ask of a life among others: it is legal, with the choices of its peer's words, and keeps the rounds on what
--- the others' traces say to it.
+-- What the laws require about the results of one peer among others. The trace is legal, with the choices of its peer's
+-- words, and keeps the rounds on what the others' traces say to it.
 pub record IsPlayed (plan : Plan) (lives : List Finished) (p : PeerNo) (life : Finished) : Type 0 where
   pub chosen : LegalByWords seeded_word seeded_after (peer_in plan p) (first_words plan p) life.trace
   pub keeps : KeepsRounds (seat_in plan p) (said_to lives p) life.trace life.refused
 
--- each peer of the plan has such a life, by number
+-- each peer of the plan has such results, by number
 abbrev pub ArePlayed : Plan → List Finished → Type 0
 ArePlayed plan lives = AllZip (IsPlayed plan lives) (numbers plan) lives
 
@@ -53,7 +53,7 @@ TracesAreOne =
     → ArePlayed other others
     → (traces_of lives ≡ traces_of others) × (refusals_of lives ≡ refusals_of others)
 
--- Runs of alike plans leave the same lives: traces, refused lines, meshes and scores.
+-- Runs of alike plans leave the same results of peers: traces, refused lines, meshes and scores.
 abbrev pub RunsAreOne : Type 0
 RunsAreOne =
     (plan other : Plan) (lives others : List Finished)
@@ -62,13 +62,13 @@ RunsAreOne =
     → IsRun other others
     → lives ≡ others
 
--- Two reports have the same peers with the same lives, the same number of links, and one text.
+-- Two reports have the same peers with the same results, the same number of settled links, and the same text.
 pub record AreOne (plan other : Plan) (report another : Report) : Type 0 where
   pub peers : report.peers.items ≡ another.peers.items
   pub settled : report.settled ≡ another.settled
   pub text : report_text plan report ≡ report_text other another
 
--- The reports of alike plans are one.
+-- The reports of alike plans are the same.
 abbrev pub ReportsAreOne : Type 0
 ReportsAreOne =
     (plan other : Plan) (report another : Report)

@@ -1,5 +1,5 @@
-//! Laws of whole runs: one plan has one report, whatever the number of workers, the capacity of links and the schedule. Each
-//! law holds of its definitions only, and its function does nothing.
+//! Laws about whole runs: one plan has one report, whatever the number of workers, the capacity of links and the schedule.
+//! Each law is only about its definitions, and its function does nothing.
 #![tactic(auto)]
 
 ghost use Rattle.gs_laws.specs.Fixed.{APhaseIsFixed, AllIsSaidByTheEnd, RoundsAreSaidByTheirEnd};
@@ -8,37 +8,37 @@ ghost use Rattle.gs_laws.specs.Scenarios.{TextsAreOne};
 
 use gs_params::Words;
 
-/// Where words make the choices, what a peer did before a phase of its life, and what its neighbours said as far as it
-/// hears that there, fix what it does there and which lines it refuses. A phase is a round, or what comes after the
-/// last one.
+/// Two things fix what a peer does in a phase: its trace before, and what its neighbours said, as far as it hears that in
+/// the phase. They also fix which lines it refuses there. The law is about traces in which random words make the choices. A
+/// phase is a round, or what comes after the last round.
 pub fn what_was_said_fixes_a_phase<W: Words>()
     ensures { APhaseIsFixed W.word W.after }
 {}
 
 /// By the end of its first rounds a peer has said all that it says in them (`rounds`). By the end of the last round it has
-/// said all that it says, but for its close (`all`).
+/// said all that it says, except its close (`all`).
 pub fn what_was_done_fixes_what_is_said()
     ensures rounds { RoundsAreSaidByTheirEnd }
     ensures all { AllIsSaidByTheEnd }
 {}
 
-/// Plans that differ at most in `workers` and `capacity` have one list of traces and of refused lines, where each trace is
-/// legal by the words of its peer and keeps the rounds on what the others say.
+/// Plans that differ at most in `workers` and `capacity` have the same traces and the same refused lines. Each trace must be
+/// legal by the words of its peer, and must keep the rounds on what the others say.
 pub fn a_plan_has_one_list_of_traces()
     ensures { TracesAreOne }
 {}
 
-/// Runs of such plans leave the same traces, refused lines, meshes and scores.
+/// Runs of plans that differ at most in `workers` and `capacity` leave the same traces, refused lines, meshes and scores.
 pub fn a_plan_has_one_run()
     ensures { RunsAreOne }
 {}
 
-/// Reports of such plans are one, and so are their texts.
+/// Reports of plans that differ at most in `workers` and `capacity` are the same, and so are their texts.
 pub fn a_plan_has_one_report()
     ensures { ReportsAreOne }
 {}
 
-/// Reports of scenarios that differ at most in `workers` and `capacity` have one text.
+/// Reports of scenarios that differ at most in `workers` and `capacity` have the same text.
 pub fn a_scenario_has_one_report()
     ensures { TextsAreOne }
 {}

@@ -1,4 +1,4 @@
-//! The laws can be called. The tests of `gossip_sim` show that there are runs that they speak of.
+//! The laws can be called. The tests of `gossip_sim` show that there are runs that the laws are about.
 use crate::{
     a_plan_has_one_list_of_traces, a_plan_has_one_report, a_plan_has_one_run,
     a_scenario_has_one_report, what_was_done_fixes_what_is_said, what_was_said_fixes_a_phase,

@@ -1,4 +1,4 @@
--- What contracts see of a link's two ends, and say of their calls.
+-- What contracts see of a link's two ends, and what they say about calls of these.
 use Rattle.std.specs.Prelude.{◌≡◌, ℕ, Bool, true, false, List, [], ◌∷◌, ◌++◌, length, ⊤, if◌then◌else◌, Result, Err}
 use Rattle.atomic_table.specs.Seated.{TableId}
 use Rattle.gs_link.specs.declared.item.Item.{Item}
@@ -12,7 +12,7 @@ use Rattle.gs_link.specs.declared.receiver.Taken.{Taken}
 use Rattle.gs_link.specs.declared.receiver.Taken.TheVariants as took
 use Rattle.gs_link.specs.Runs.{closes, RunWithin}
 
--- which link it is, by the memory of its queue: the two ends of one `open_link` are known to have one
+-- which link it is, by the memory of its queue: the two ends that one `open_link` returns have the same identity
 abbrev pub LinkId : Type 0
 LinkId = TableId
 
@@ -30,7 +30,7 @@ pub record TakingEnd : Type 0 where
 
 -- ---- send and close
 
--- at one moment as many slots waited as may, at the end of what was accepted
+-- at one moment as many slots waited as the capacity, at the end of what was accepted
 abbrev pub FoundFull : SendingEnd → Type 0
 FoundFull end =
     (taken : List Slot) × (waiting : List Slot)
@@ -42,17 +42,17 @@ abbrev pub handed_back : SendRefused → Item
 handed_back (send.Closed item) = item
 handed_back (send.Full item) = item
 
--- the link is full, says the answer to send
+-- the answer to `send` says that the link is full
 abbrev pub send_found_full : Result (Unit {0}) SendRefused → Bool
 send_found_full (Err (send.Full item)) = true
 send_found_full other = false
 
--- this end has closed, says the answer to send
+-- the answer to `send` says that this end has closed
 abbrev pub send_found_closed : Result (Unit {0}) SendRefused → Bool
 send_found_closed (Err (send.Closed item)) = true
 send_found_closed other = false
 
--- the link is full, or this end has closed before, says the answer to close
+-- the answer to `close` says that the link is full, or that this end has closed before
 abbrev pub close_found_full : Result (Unit {0}) CloseRefused → Bool
 close_found_full (Err close.Full) = true
 close_found_full other = false
@@ -67,21 +67,21 @@ close_found_closed other = false
 abbrev pub FoundEmpty : TakingEnd → Type 0
 FoundEmpty end = (accepted : List Slot) × RunWithin end.capacity accepted end.taken []
 
--- what an answer of take holds, if it has an item
+-- P holds for the item in an answer of `take`, if there is one
 abbrev pub IfGot : Taken → (Item → Type 0) → Type 0
 IfGot (took.Got item) P = P item
 IfGot other P = ⊤
 
--- nothing waits, says the answer to take
+-- the answer to `take` says that nothing waits
 abbrev pub take_found_empty : Taken → Bool
 take_found_empty took.Empty = true
 take_found_empty other = false
 
--- the link has no more items, says the answer to take
+-- the answer to `take` says that the link has no more items
 abbrev pub take_found_closed : Taken → Bool
 take_found_closed took.Closed = true
 take_found_closed other = false
 
--- what was taken, with the close after it
+-- what was taken, with the close after it where it has none yet
 abbrev pub with_close : List Slot → List Slot
 with_close slots = if closes slots then slots else slots ++ Close ∷ []

@@ -1,4 +1,4 @@
--- How the fields of a link's ends make what contracts see of them.
+-- How what contracts see of a link's ends is made of the ends' fields.
 use Rattle.std.specs.Prelude.{◌≡◌, ℕ, Bool, true}
 use Rattle.crossbeam_queue.specs.Passes.{Pass, view as known}
 use Rattle.gs_link.specs.declared.item.Slot.{Slot}
@@ -6,7 +6,7 @@ use Rattle.gs_link.specs.declared.rule.Account.{Account}
 use Rattle.gs_link.specs.Runs.{closes}
 use Rattle.gs_link.specs.Ends.{SendingEnd, TakingEnd}
 
--- by the capacity of the queue, and the pass
+-- made of the capacity of the queue, and of the pass
 abbrev pub sending_end : ℕ → Pass Slot Account → SendingEnd
 sending_end capacity pass = record { link = pass.table_id; capacity = capacity; accepted = (known pass).accepted }
 

@@ -1,4 +1,4 @@
--- What a list of slots says, as a word of bytes, ends of rounds and a close. How bytes are cut doesn't show.
+-- What a list of slots says: bytes, ends of rounds and a close, in order. How bytes are cut into pieces doesn't show.
 use Rattle.std.specs.Prelude.{◌≡◌, ℕ, List, [], ◌∷◌, ◌++◌, map}
 use Rattle.gs_base.specs.Tokens.{Byte, EndOf, Close as Closing, Said}
 use Rattle.gs_link.specs.declared.item.Slot.{Slot}
@@ -15,7 +15,7 @@ flat (Close ∷ slots) = Closing ∷ flat slots
 abbrev pub SaysInOrder : Type 0
 SaysInOrder = (front rest : List Slot) → flat (front ++ rest) ≡ flat front ++ flat rest
 
--- a piece that is cut in two says what it said whole, whatever stands around it
+-- a piece that is cut in two says the same as the whole piece, whatever stands around it
 abbrev pub CuttingIsHidden : Type 0
 CuttingIsHidden =
     (before behind : List Slot) (bytes more : List ℕ)

@@ -13,7 +13,7 @@ IsCapacity n = (1 ≤ n) × (n ≤ 1024)
 abbrev pub IsPiece : List ℕ → Type 0
 IsPiece bytes = (1 ≤ length bytes) × (length bytes ≤ 64)
 
--- what may be sent: a mark may have any round
+-- what may be sent: a piece of such a size, or the end of any round
 abbrev pub IsSendable : Item → Type 0
 IsSendable (item.Piece bytes) = IsPiece bytes
 IsSendable (item.Round r) = ⊤
@@ -24,7 +24,7 @@ IsCarried (slot.Piece bytes) = IsPiece bytes
 IsCarried (slot.Round r) = ⊤
 IsCarried slot.Close = ⊤
 
--- an item, as it lies in a link
+-- the slot in which an item lies in a link
 abbrev pub slot_of : Item → Slot
 slot_of (item.Piece bytes) = slot.Piece bytes
 slot_of (item.Round r) = slot.Round r

@@ -1,4 +1,4 @@
--- The rule of a link, and the eight moves that it allows: atomic steps on its queue, or only on its passes.
+-- The rule of a link, and the eight moves that it allows. A move is an atomic step on the queue, or only one on its passes.
 use Rattle.std.specs.Prelude.{◌≡◌, ℕ, Bool, true, false, List, [], ◌∷◌, ◌++◌}
 use mathlib.Core.Option.{some}
 use lib.ListN.{get_elem?}
@@ -12,14 +12,14 @@ account sends takes accepted taken = record { sends = sends; takes = takes; acce
 
 -- ---- the rule
 
--- one pass at most may send, and it has the list of what was accepted;
--- one may take, and it has the list of what was taken
+-- At most one pass may send, and it has the list of what was accepted.
+-- At most one pass may take, and it has the list of what was taken.
 abbrev pub Fits : ℕ → ℕ → List Slot → List Slot → ℕ → Account → Type 0
 Fits sender taker accepted taken pass v =
     (v.sends ≡ true → (pass ≡ sender) × (v.accepted ≡ accepted))
     × (v.takes ≡ true → (pass ≡ taker) × (v.taken ≡ taken))
 
--- what the passes say is a run of the link, with what waits in its queue
+-- what the passes say and what waits in the queue are together a run of the link
 abbrev pub InOrder : List Slot → List Account → Type 0
 InOrder waiting accounts =
     (sender : ℕ) × (taker : ℕ) × (accepted : List Slot) × (taken : List Slot)
@@ -27,31 +27,30 @@ InOrder waiting accounts =
     × ((pass : ℕ) (v : Account) → get_elem? accounts pass ≡ some v → Fits sender taker accepted taken pass v)
 
 -- ---- the eight moves
--- (beside `FindsFull` the queue says that its capacity waits, beside `FindsEmpty` that nothing does)
+-- (where `FindsFull` holds, the queue also says that as many slots wait as its capacity; where `FindsEmpty` holds, that none do)
 
 -- Make: a new link has one pass, which may send and take, and nothing was accepted or taken.
 abbrev pub made : Account
 made = account true true [] []
 
--- Split off the sender's pass: a new pass gets the leave to send and the list of what was accepted,
--- the old one keeps the rest.
+-- Split off the sender's pass: a new pass gets the right to send and the list of what was accepted. The old pass keeps the
+-- rest.
 abbrev pub split_sender : Account → Account × Account
 split_sender v = (account false v.takes [] v.taken, account v.sends false v.accepted [])
 
--- Split off the receiver's pass: a new pass gets the leave to take and the list of what was taken,
--- the old one keeps the rest.
+-- Split off the receiver's pass: a new pass gets the right to take and the list of what was taken. The old pass keeps the rest.
 abbrev pub split_receiver : Account → Account × Account
 split_receiver v = (account v.sends false v.accepted [], account false v.takes [] v.taken)
 
--- Push: the pass that may send, and has not closed, puts a slot of its size at the back of what waits
--- and of what was accepted.
+-- Push: the pass that may send, and has not closed, puts a slot at the back of what waits and of what was accepted. The slot
+-- is within its sizes.
 abbrev pub Pushes : Account → Slot → Account → Type 0
 Pushes v slot w =
     (v.sends ≡ true) × (closes v.accepted ≡ false) × IsCarried slot
     × (w ≡ account v.sends v.takes (v.accepted ++ slot ∷ []) v.taken)
 
--- Push found full: the pass that may send sees as many slots waiting as there is room for,
--- ending what was accepted; nothing changes.
+-- Push found full: the pass that may send sees that as many slots wait as there is room for. These are the last that were
+-- accepted. Nothing changes.
 abbrev pub FindsFull : Account → List Slot → Type 0
 FindsFull v waiting = (v.sends ≡ true) × (taken : List Slot) × Run v.accepted taken waiting
 
@@ -59,12 +58,11 @@ FindsFull v waiting = (v.sends ≡ true) × (taken : List Slot) × Run v.accepte
 abbrev pub Pops : Account → Slot → Account → Type 0
 Pops v slot w = (v.takes ≡ true) × IsCarried slot × (w ≡ account v.sends v.takes v.accepted (v.taken ++ slot ∷ []))
 
--- Pop found empty: the pass that may take sees that nothing waits, so that all that was accepted was taken;
--- nothing changes.
+-- Pop found empty: the pass that may take sees that nothing waits. So all that was accepted was taken. Nothing changes.
 abbrev pub FindsEmpty : Account → List Slot → Type 0
 FindsEmpty v waiting = (v.takes ≡ true) × (accepted : List Slot) × Run accepted v.taken waiting
 
--- Join: the sender's pass takes in the receiver's, which is spent, and so knows what was accepted and what was taken.
+-- Join: the sender's pass takes in the receiver's pass, which is then spent. So it knows what was accepted and what was taken.
 abbrev pub join : Account → Account → Account
 join v w = account v.sends w.takes v.accepted w.taken
 
@@ -74,6 +72,6 @@ spent = account false false [] []
 
 -- ---- what the joined pass sees
 
--- what waits stands between what it took and what it accepted
+-- what it accepted is what it took and then what waits
 abbrev pub SeesWhole : Account → List Slot → Type 0
 SeesWhole v waiting = Run v.accepted v.taken waiting

@@ -7,7 +7,7 @@ use Rattle.gs_link.specs.declared.fault.SendRefused.TheVariants as send
 use Rattle.gs_link.specs.declared.fault.CloseRefused.{CloseRefused}
 use Rattle.gs_link.specs.declared.fault.CloseRefused.TheVariants as close
 
--- no memory for a link
+-- too little memory for a link
 abbrev pub link_number : LinkFault → ℕ
 link_number link.NoMemory = 9
 

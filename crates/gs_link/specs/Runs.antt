@@ -1,4 +1,4 @@
--- A run of a link: what it accepted, what was taken of it, and what waits.
+-- A run of a link: what it accepted, what was taken from it, and what waits.
 use Rattle.std.specs.Prelude.{◌≡◌, ℕ, ◌≤◌, Bool, true, false, List, [], ◌∷◌, ◌++◌, length}
 use Rattle.std.specs.List.{All}
 use Rattle.gs_link.specs.declared.item.Slot.{Slot}
@@ -16,13 +16,13 @@ closes (Close ∷ slots) = true
 abbrev pub ClosesLast : List Slot → Type 0
 ClosesLast slots = (before behind : List Slot) → slots ≡ before ++ Close ∷ behind → behind ≡ []
 
--- What was accepted is what was taken and then what waits, the close is its last, and what waits is within its sizes.
+-- What was accepted is what was taken and then what waits. Nothing follows a close, and each slot that waits is within its sizes.
 pub record Run (accepted taken waiting : List Slot) : Type 0 where
   pub in_order : accepted ≡ taken ++ waiting
   pub closed_last : ClosesLast accepted
   pub sized : All IsCarried waiting
 
--- A run of a link in which no more slots wait than its capacity.
+-- A run of a link in which the slots that wait are no more than its capacity.
 pub record RunWithin (capacity : ℕ) (accepted taken waiting : List Slot) : Type 0 where
   pub run : Run accepted taken waiting
   pub room : length waiting ≤ capacity

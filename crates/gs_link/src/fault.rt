@@ -6,13 +6,13 @@ use crate::item::Item;
 /// Why a link is not made.
 #[derive(Clone, Copy, Debug, PartialEq, Eq, thiserror::Error)]
 pub enum LinkFault {
-    /// There was no memory.
+    /// Memory ran out.
     #[error("there was no memory for a link")]
     NoMemory,
 }
 
 impl LinkFault {
-    /// The number of the refusal: 9.
+    /// Returns the number of the refusal: 9.
     pub fn number(self) -> u8
         ensures { result ≡ link_number self }
     {
@@ -28,13 +28,13 @@ pub enum SendRefused {
     /// This end has closed the link.
     #[error("the link is closed")]
     Closed(Item),
-    /// As many slots wait as may.
+    /// As many slots wait as the link has room for.
     #[error("the link is full")]
     Full(Item),
 }
 
 impl SendRefused {
-    /// The number of the refusal: 10 where the link is full, 11 where it is closed.
+    /// Returns the number of the refusal: 10 if the link is full, and 11 if it is closed.
     pub fn number(&self) -> u8
         ensures { result ≡ send_number self.now }
     {
@@ -48,16 +48,16 @@ impl SendRefused {
 /// Why a link is not closed.
 #[derive(Clone, Copy, Debug, PartialEq, Eq, thiserror::Error)]
 pub enum CloseRefused {
-    /// This end has closed the link before.
+    /// This end has already closed the link.
     #[error("the link is closed")]
     Closed,
-    /// As many slots wait as may.
+    /// As many slots wait as the link has room for.
     #[error("the link is full")]
     Full,
 }
 
 impl CloseRefused {
-    /// The number of the refusal: 10 where the link is full, 11 where it is closed.
+    /// Returns the number of the refusal: 10 if the link is full, and 11 if it is closed.
     pub fn number(self) -> u8
         ensures { result ≡ close_number self }
     {

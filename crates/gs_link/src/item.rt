@@ -4,26 +4,27 @@ ghost use Rattle.gs_link.specs.Items.{IsCapacity, IsSendable, slot_of};
 
 use bytes::Bytes;
 
-/// The most slots that may wait in a link. Calls ask for it as a condition: to go beyond is a fault of the caller.
+/// The most slots that may wait in a link. Calls require that a capacity is no larger, so a larger one is a mistake of the
+/// caller.
 pub const LARGEST_CAPACITY: usize = 1_024;
 
-/// The most bytes of a piece.
+/// The most bytes that a piece may have.
 pub const LONGEST_PIECE: usize = 64;
 
 /// What is sent over a link.
 #[derive(Debug, PartialEq, Eq, Drop)]
 pub enum Item {
-    /// 1 to 64 bytes. Frames may be cut into pieces, and joined in one, in any way.
+    /// 1 to 64 bytes. Frames may be cut into pieces or joined into one piece, in any way.
     Piece(Bytes),
     /// The end of a round, which stands after all bytes that were sent in it.
     Round(u64),
 }
 
-/// What lies in a link: an item, or the close, which is the last. It is no larger than an item, so
-/// that a link costs no more than a queue of items.
+/// What lies in a link: an item, or the close, which comes last. It is no larger than an item, so a link costs no more than a
+/// queue of items.
 #[derive(Debug, PartialEq, Eq, Drop)]
 pub enum Slot {
-    /// 1 to 64 bytes of the frames that are sent.
+    /// 1 to 64 bytes from the frames that are sent.
     Piece(Bytes),
     /// The end of this round: the bytes that were sent in it stand before it.
     Round(u64),
@@ -42,7 +43,7 @@ impl Slot {
     }
 }
 
-/// Whether a link may have this capacity: 1 to 1,024 slots.
+/// Says whether a link may have this capacity: 1 to 1,024 slots.
 pub fn is_capacity(capacity: usize) -> bool
     ensures { IsTrue result ↔ IsCapacity capacity }
 {
@@ -50,7 +51,7 @@ pub fn is_capacity(capacity: usize) -> bool
 }
 
 impl Item {
-    /// Whether the item may be sent: a piece has 1 to 64 bytes.
+    /// Says whether the item may be sent: a piece must have 1 to 64 bytes.
     pub fn is_sendable(&self) -> bool
         ensures { IsTrue result ↔ IsSendable self.now }
     {

@@ -1,6 +1,5 @@
-//! A link from one peer to another: a sending end and a taking end over one queue without a lock.
-//! It carries pieces of bytes, marks of the ends of rounds and at last a close, each once and in
-//! order, between any two threads.
+//! A link from one peer to another: a sending end and a taking end over one queue without a lock. It carries pieces of bytes,
+//! the ends of rounds and at last a close. Each goes over once and in order, between any two threads.
 #![tactic(auto)]
 
 mod fault;

@@ -8,10 +8,11 @@ use crate::sender::LinkTx;
 use std::alloc::Global;
 use std::sync::Arc;
 
-/// A new link in which up to `capacity` slots wait, 1 to 1,024: its sending and its taking end. All
-/// memory that its calls need is taken here.
+/// Opens a link in which up to `capacity` slots wait, 1 to 1,024, and returns its sending end and its taking end. All memory
+/// that its calls need is taken here.
 ///
-/// Answers NoMemory where there is none.
+/// # Errors
+/// `NoMemory` if memory runs out.
 pub fn open_link(alloc: Global, capacity: usize) -> Result<(LinkTx, LinkRx), LinkFault>
     requires capacity { IsCapacity capacity }
     ensures link { IfOk result (λ ends. ends.1.link ≡ ends.0.link) }

@@ -14,14 +14,14 @@ use std::sync::{Arc, Wait};
 pub enum Taken {
     /// The item that waited longest.
     Got(Item),
-    /// Nothing waits now, and more may come.
+    /// Nothing waits now, but more may come.
     Empty,
     /// The close was taken: nothing more comes.
     Closed,
 }
 
-/// The taking end of a link. A contract sees its link, the link's capacity and the list of all
-/// slots that were taken, which exists only in proofs.
+/// The taking end of a link. A contract sees its link, the link's capacity and the list of all slots that were taken. That list
+/// exists only in proofs.
 #[derive(Drop)]
 pub struct LinkRx {
     pub(crate) queue: Arc<Queue, Global>,
@@ -45,8 +45,8 @@ impl Model for LinkRx {
 impl LinkRx {
     /// Takes what waits at the front, in one step. It takes no memory.
     ///
-    /// Answers Empty where one step found that nothing waits, and Closed where the close is taken
-    /// now or was taken before; then it makes no step.
+    /// It answers `Empty` if one step found that nothing waits. It answers `Closed` if it takes the close now, or if the close
+    /// was taken before. In the latter case it makes no step.
     pub fn take<R: Wait>(&mut self, rt: &R) -> Taken
         ensures link { self.new.link ≡ self.old.link }
         ensures capacity { self.new.capacity ≡ self.old.capacity }

@@ -1,4 +1,4 @@
-//! The rule of a link's queue, and the moves that it allows. Nothing of it takes time or memory.
+//! The rule of a link's queue, and the moves that it allows. It exists only in proofs, and takes neither time nor memory.
 use crate::item::Slot;
 use crossbeam_queue::protocol::{Join, Lesson, Outcome, Protocol, Split};
 use crossbeam_queue::{Pass, RuledArrayQueue};
@@ -27,7 +27,7 @@ impl Protocol<Slot, Account> for InOrder {
     ghost first = { made };
 }
 
-/// Cuts the sender's pass off.
+/// Splits off the sender's pass.
 pub struct SplitSender;
 
 impl Split<Account> for SplitSender {
@@ -38,7 +38,7 @@ impl Split<Account> for SplitSender {
     ghost right = { λ v. (split_sender v).1 };
 }
 
-/// Cuts the receiver's pass off.
+/// Splits off the receiver's pass.
 pub struct SplitReceiver;
 
 impl Split<Account> for SplitReceiver {
@@ -79,7 +79,7 @@ impl Lesson<Slot, Account> for Pop {
     ghost fact = { FindsEmpty };
 }
 
-/// The two passes become one, which sees the whole.
+/// The two passes become one, which sees all that was accepted and taken.
 pub struct JoinEnds;
 
 impl Join<Account> for JoinEnds {
@@ -96,8 +96,8 @@ impl Lesson<Slot, Account> for JoinEnds {
     ghost fact = { SeesWhole };
 }
 
-/// The queue of a link, which takes no lock: each of its steps keeps `InOrder`, whichever thread takes it.
+/// The queue of a link, which takes no lock. Each of its steps keeps `InOrder`, whichever thread takes the step.
 pub type Queue = RuledArrayQueue<Slot, Account, InOrder>;
 
-/// What one end knows of its queue.
+/// What one end knows about its queue.
 pub type End = Pass<Slot, Account>;

@@ -12,8 +12,8 @@ use std::alloc::Global;
 use std::marker::Model;
 use std::sync::{Arc, Wait};
 
-/// The sending end of a link. A contract sees its link, the link's capacity and the list of all
-/// slots that it accepted, which exists only in proofs.
+/// The sending end of a link. A contract sees its link, the link's capacity and the list of all slots that it accepted. That
+/// list exists only in proofs.
 #[derive(Drop)]
 pub struct LinkTx {
     pub(crate) queue: Arc<Queue, Global>,
@@ -37,8 +37,9 @@ impl Model for LinkTx {
 impl LinkTx {
     /// Puts the item at the back of what waits, in one step. It takes no memory.
     ///
-    /// Answers Closed where this end has closed, without a step, and Full where one step found the
-    /// link full. Either hands the item back and changes nothing.
+    /// # Errors
+    /// `Closed` if this end has closed; then it makes no step. `Full` if one step found the link full. Either hands the item
+    /// back and changes nothing.
     pub fn send<R: Wait>(&mut self, rt: &R, item: Item) -> Result<(), SendRefused>
         requires size { IsSendable item }
         ensures link { self.new.link ≡ self.old.link }
@@ -61,11 +62,12 @@ impl LinkTx {
         }
     }
 
-    /// Puts the close at the back of what waits, in one step: it takes one place of the link, and
-    /// nothing is accepted after it. It takes no memory.
+    /// Puts the close at the back of what waits, in one step. The close takes one place of the link, and nothing is accepted
+    /// after it. The call takes no memory.
     ///
-    /// Answers Closed where this end has closed before, without a step, and Full where one step
-    /// found the link full. Either changes nothing.
+    /// # Errors
+    /// `Closed` if this end has closed before; then it makes no step. `Full` if one step found the link full. Either changes
+    /// nothing.
     pub fn close<R: Wait>(&mut self, rt: &R) -> Result<(), CloseRefused>
         ensures link { self.new.link ≡ self.old.link }
         ensures capacity { self.new.capacity ≡ self.old.capacity }

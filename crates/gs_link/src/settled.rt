@@ -7,15 +7,15 @@ use crate::rule::JoinEnds;
 use crate::sender::LinkTx;
 use std::sync::Wait;
 
-/// What became of a link.
+/// How a link ended.
 #[derive(Clone, Copy, Debug, PartialEq, Eq)]
 pub struct Settled {
-    /// Whether the close was taken, and so all that was sent.
+    /// Whether the close was taken. If so, all that was sent was taken.
     pub whole: bool,
 }
 
-/// Puts the two ends of one link together again, and says whether all that was sent was taken. What
-/// still waits is dropped.
+/// Joins the two ends of one link again, and says whether the close was taken, and so all that was sent. What still waits is
+/// dropped.
 pub fn settle<R: Wait>(rt: &R, tx: LinkTx, rx: LinkRx) -> Settled
     requires one { rx.link ≡ tx.link }
     ensures run { (waiting : List SlotValue) × RunWithin tx.capacity tx.accepted rx.taken waiting }
@@ -33,7 +33,7 @@ pub fn settle<R: Wait>(rt: &R, tx: LinkTx, rx: LinkRx) -> Settled
         closed: whole,
     } = rx;
     queue.absorb::<JoinEnds>(&mut end, other);
-    // Counts what waits, and so knows that it is no more than the capacity.
+    // The count of what waits shows that it is no more than the capacity.
     queue.len_as::<JoinEnds, R>(rt, &mut end);
     Settled { whole }
 }

@@ -1,4 +1,4 @@
--- Who is kept where a mesh has too many members: the D_score best by score, D_out outbound ones, and others up to D
+-- Who is kept when a mesh has too many members: the D_score best by score, D_out outbound ones, and others up to D
 -- (gossipsub v1.1, Heartbeat Maintenance and Outbound Mesh Quotas).
 use Rattle.std.specs.Prelude.{◌≡◌, ℕ, ◌+◌, ◌-◌, ◌≤◌, nat_lt, ◌≤ℤ◌, int_lt, Bool, ◌&&◌, ◌||◌, not, min, List, ◌++◌, length, map, filter, All}
 use Rattle.std.specs.Ordering.{int_eq}
@@ -26,9 +26,9 @@ outside peers members = filter (λ m. not (is_member same_peer peers m.peer)) me
 
 -- ---- any cut
 
--- d of the members are kept, or all where there are fewer. Among them are d_score best ones: no other member scores
--- higher than one of these, so it is free who counts as best of equal ones. And among them are d_out outbound ones,
--- or all that there are.
+-- A cut keeps d of the members, or all if there are fewer. Among those that it keeps are d_score best ones: no other member
+-- scores higher than one of these. So any of equal members may count as best. Also among them are d_out outbound ones, or
+-- all that there are.
 pub record IsCut (degrees : Degrees) (members : List Member) (kept : List PeerNo) : Type 0 where
   pub some : IsSample degrees.d (peers_of members) kept
   pub best : List PeerNo
@@ -45,17 +45,17 @@ is_better a b = int_lt b.score a.score || (int_eq a.score b.score && nat_lt a.pe
 abbrev pub better_ones : List Member → Member → ℕ
 better_ones members m = length (filter (λ other. is_better other m) members)
 
--- the n best are those that fewer than n are better than
+-- the n best: fewer than n members are better than each of them
 unfoldable pub best_by_score : ℕ → List Member → List PeerNo
 best_by_score n members = peers_of (filter (λ m. nat_lt (better_ones members m) n) members)
 
--- how many outbound ones these lack
+-- how many outbound members are missing among these
 unfoldable pub outbound_lacking : Degrees → List Member → List PeerNo → ℕ
 outbound_lacking degrees members these =
     min degrees.d_out (length (outbound_of members)) - length (among these (outbound_of members))
 
 module _ {S : Type 0} (word : S → ℕ) (after : S → S) where
-  -- Outbound ones are picked first, as many as the best lack, among the outbound members that are not best.
+  -- Outbound ones are picked first, as many as are missing among the best, among the outbound members that are not best.
   unfoldable pub outbound_picked : Degrees → List Member → List PeerNo → S → List PeerNo
   outbound_picked degrees members best s =
       picked word after (outbound_lacking degrees members best) (peers_of (outside best (outbound_of members))) s
@@ -94,7 +94,7 @@ module _ {S : Type 0} (word : S → ℕ) (after : S → S) where
   cut_words degrees members s =
       others_picked_words degrees members (first_kept degrees members s) (first_words degrees members s)
 
-  -- The members stand ascending, as the candidates of a pick do, and d leaves room for the best and the outbound ones.
+  -- The members ascend, as the candidates of a pick do, and d leaves room for the best and the outbound ones.
   pub record IsExactCut (degrees : Degrees) (members : List Member) (s : S) (kept : List PeerNo) (t : S) : Type 0 where
     pub ascending : IsAscending (peers_of members)
     pub room : degrees.d_score + degrees.d_out ≤ degrees.d
@@ -103,7 +103,7 @@ module _ {S : Type 0} (word : S → ℕ) (after : S → S) where
 
   -- ---- laws
 
-  -- whatever the words, it is a cut
+  -- for any words, it is a cut
   abbrev pub EachIsACut : Type 0
   EachIsACut =
       (degrees : Degrees) (members : List Member) (s : S) (kept : List PeerNo) (t : S)

@@ -1,7 +1,7 @@
 -- What a heartbeat does to the mesh of a topic (gossipsub v1.0, "Mesh maintenance"; v1.1, "Heartbeat Maintenance", "Outbound
--- Mesh Quotas" and "Opportunistic Grafting"). Members that score below 0 go. Of the others, where they are few, more come
--- in; where they are many, some go; where few of them are outbound, outbound ones come in. Then, at each heartbeat
--- whose number is a multiple of `opportunistic_ticks`, a mesh with a low median score gets better neighbours.
+-- Mesh Quotas" and "Opportunistic Grafting"). Members that score below 0 go. If the others are few, more come in. If they
+-- are many, some go. If few of them are outbound, outbound ones come in. Then, at each heartbeat whose number is a multiple
+-- of `opportunistic_ticks`, a mesh with a low median score gets better neighbours.
 use Rattle.std.specs.Prelude.{◌≡◌, ℕ, ◌+◌, ◌-◌, ◌≤◌, ◌/◌, ◌%◌, nat_eq, nat_lt, ℤ, pos, int_lt, Bool, true, false, not, ◌&&◌, if◌then◌else◌, List, [], ◌++◌, length, filter}
 use Rattle.std.specs.List.{count_by}
 use Rattle.gs_base.specs.declared.names.PeerNo.{PeerNo}
@@ -23,8 +23,8 @@ is_negative m = int_lt m.score (pos 0)
 abbrev pub not_negative : List Member → List Member
 not_negative mesh = filter (λ m. not (is_negative m)) mesh
 
--- How a mesh stands by its members: they are fewer than D_low, or more than D_high, or fewer than D_out of them are
--- outbound, or all is well.
+-- The state of a mesh, judged by its members. They are fewer than D_low, or more than D_high, or fewer than D_out of them
+-- are outbound. Otherwise nothing is lacking.
 abbrev pub condition_of : Degrees → List Member → Condition
 condition_of degrees members =
     if nat_lt (length members) degrees.d_low then Few
@@ -34,8 +34,8 @@ condition_of degrees members =
 
 -- ---- the median
 
--- Whether the median score lies below x. Of n scores that ascend the median is the one at place n / 2, from 0, so it does
--- where more than n / 2 of them lie below x. Where there is no member, nothing does.
+-- Whether the median score lies below x. The median of n ascending scores is the one at place n / 2, counted from 0. So it
+-- lies below x if more than n / 2 scores do. Without members it does not.
 abbrev pub median_is_below : List Member → ℤ → Bool
 median_is_below members x = nat_lt (length members / 2) (count_by (λ m. int_lt m.score x) members)
 
@@ -51,25 +51,25 @@ is_poor params number members =
 
 -- ---- the step
 
--- The members, as those that are kept and those that are grafted make them.
+-- The members after the change: those that are kept, and the candidates that are grafted.
 abbrev pub mended_members : List Member → List Member → List PeerNo → List PeerNo → List Member
 mended_members members candidates kept grafted = among kept members ++ among grafted candidates
 
--- who goes, and who comes in, each in their order
+-- who leaves, in the order of the mesh, and who comes in, in the order of the candidates
 abbrev pub mesh_change : List Member → List Member → List PeerNo → List PeerNo → MeshChange
 mesh_change mesh candidates kept grafted =
     record { pruned = peers_of (outside kept mesh); grafted = peers_of (among grafted candidates) }
 
--- What follows is the step by what is chosen in it, and what comes of each choice: of any given number of some peers,
--- and of the members that a cut keeps.
+-- The next definitions state the step for any way to choose. `any_of` goes on with any given number of some peers, and
+-- `cut_of` goes on with the members that a cut keeps.
 
 module _ {R : Type 0} (any_of : ℕ → List PeerNo → (List PeerNo → R) → R) where
-  -- where a mesh is poor, any `most` of those that score above its median come in
+  -- if a mesh is poor, any `most` of those that score above its median come in
   abbrev pub opportunistic_grafts : Bool → ℕ → List Member → List Member → (List PeerNo → R) → R
   opportunistic_grafts true most members candidates next = any_of most (peers_of (above_median members candidates)) next
   opportunistic_grafts false most members candidates next = next []
 
-  -- so it is with the mesh as its number of members left it; a peer that this grafted does not come in twice
+  -- the same for a mesh that was mended first; a peer that was grafted then does not come in twice
   abbrev pub opportunistic_grafts_then :
       Params → ℕ → List Member → List Member → List PeerNo → (List PeerNo → R) → R
   opportunistic_grafts_then params number members candidates grafted next =
@@ -101,34 +101,34 @@ module _ {R : Type 0} (any_of : ℕ → List PeerNo → (List PeerNo → R) → 
 -- ---- the step by random words
 
 module _ {S : Type 0} (word : S → ℕ) (after : S → S) where
-  -- what comes of k of these peers by the next words, from the state after them
+  -- goes on with k of these peers, which the next words pick, and with the state after these words
   abbrev pub any_by_words : {A : Type 0} → ℕ → List PeerNo → (List PeerNo → S → A) → S → A
   any_by_words k candidates next s = next (picked word after k candidates s) (picked_words word after k candidates s)
 
-  -- what comes of the cut by the next words
+  -- goes on with the cut by the next words, and with the state after these words
   abbrev pub cut_by_words : {A : Type 0} → Degrees → List Member → (List PeerNo → S → A) → S → A
   cut_by_words degrees members next s = next (cut word after degrees members s) (cut_words word after degrees members s)
 
-  -- whom a mesh keeps by its number of members, who is grafted for that, and the state after it
+  -- who is kept in a mesh and who is grafted, as its state requires, and the state of the words after that
   abbrev pub mended_by_words : Degrees → List Member → List Member → S → List PeerNo × List PeerNo × S
   mended_by_words degrees members candidates s =
       mended any_by_words cut_by_words (condition_of degrees members) degrees members candidates
       (λ kept grafted t. (kept, grafted, t)) s
 
-  -- who is grafted where it is poor, beside those that were, and the state after that
+  -- who else is grafted if the mesh is poor, and the state of the words after that
   abbrev pub opportunistic_grafts_by_words :
       Params → ℕ → List Member → List Member → List PeerNo → S → List PeerNo × S
   opportunistic_grafts_by_words params number members candidates grafted s =
       opportunistic_grafts_then any_by_words params number members candidates grafted (λ more t. (more, t)) s
 
-  -- who goes and who comes in by the next words, and the state after them
+  -- who leaves and who comes in by the next words, and the state after them
   unfoldable pub step_by_words : Params → ℕ → List Member → List Member → S → MeshChange × S
   step_by_words params number mesh candidates s =
       stepped any_by_words cut_by_words params number mesh candidates (λ change t. (change, t)) s
 
 -- ---- any step
 
--- whom a mesh keeps and who is grafted to it, by how it stands
+-- who is kept in a mesh and who is grafted to it, as its state requires
 abbrev pub IsMended : Condition → Degrees → List Member → List Member → List PeerNo → List PeerNo → Type 0
 IsMended Few degrees members candidates kept grafted =
     (kept ≡ peers_of members) × IsSample (degrees.d - length members) (peers_of candidates) grafted
@@ -143,7 +143,7 @@ abbrev pub AreOpportunisticGrafts : Bool → ℕ → List Member → List Member
 AreOpportunisticGrafts true most members candidates more = IsSample most (peers_of (above_median members candidates)) more
 AreOpportunisticGrafts false most members candidates more = more ≡ []
 
--- Who goes and who comes in, by any choices.
+-- A step by any choices: who leaves, and who comes in.
 pub record IsMeshStep (params : Params) (number : ℕ) (mesh candidates : List Member)
     (change : MeshChange) : Type 0 where
   pub kept : List PeerNo
@@ -159,8 +159,7 @@ pub record IsMeshStep (params : Params) (number : ℕ) (mesh candidates : List M
       more
   pub change_is : change ≡ mesh_change mesh candidates kept (grafted ++ more)
 
--- Whatever the words, it is a mesh step, where members and candidates ascend and D leaves room for a cut's best and
--- outbound members.
+-- For any words it is a mesh step, if members and candidates ascend and D leaves room for a cut's best and outbound members.
 module _ {S : Type 0} (word : S → ℕ) (after : S → S) where
   abbrev pub EachIsAMeshStep : Type 0
   EachIsAMeshStep =

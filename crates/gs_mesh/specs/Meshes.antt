@@ -10,7 +10,7 @@ use Rattle.gs_mesh.specs.Backoffs.{until}
 
 -- ---- look-ups
 
--- what is kept of a topic before anything is said of it
+-- what is kept about a topic at first
 abbrev pub nothing : TopicMesh
 nothing = record { is_joined = false; members = []; fanout = []; last_published = None; backoffs = [] }
 
@@ -25,24 +25,24 @@ members topics t = (kept topics t).members
 abbrev pub fanout : List (Topic × TopicMesh) → Topic → List PeerNo
 fanout topics t = (kept topics t).fanout
 
--- from when on a neighbour may be grafted to it
+-- the moment from which a neighbour may be grafted to it
 abbrev pub backoff_until : List (Topic × TopicMesh) → PeerNo → Topic → Millis
 backoff_until topics q t = until (kept topics t).backoffs q
 
--- whether anything was ever said of it
+-- whether anything is kept about it
 abbrev pub is_kept : List (Topic × TopicMesh) → Topic → Bool
 is_kept topics t = is_some (lookup (same_topic t) topics)
 
 -- ---- changes
 
--- each look-up answers as before: so it is where there was no memory
+-- each look-up answers as before, as after a call that ran out of memory
 abbrev pub SayTheSame : List (Topic × TopicMesh) → List (Topic × TopicMesh) → Type 0
 SayTheSame old new = (t : Topic) → kept new t ≡ kept old t
 
--- this is kept of a topic now, and of all others what was
+-- now this is kept about a topic, and nothing changes for all others
 abbrev pub Puts : List (Topic × TopicMesh) → List (Topic × TopicMesh) → Topic → TopicMesh → Type 0
 Puts old new t mesh = (u : Topic) → kept new u ≡ (if same_topic t u then mesh else kept old u)
 
--- of a topic nothing changes but who is not to be grafted, and of all others nothing
+-- for a topic nothing changes except until when neighbours may not be grafted, and for all others nothing changes
 abbrev pub ChangesBackoffs : List (Topic × TopicMesh) → List (Topic × TopicMesh) → Topic → Type 0
 ChangesBackoffs old new t = Puts old new t (record (kept old t) { backoffs = (kept new t).backoffs })

@@ -9,11 +9,11 @@ use Rattle.gs_base.specs.Names.{same_peer}
 abbrev pub is_among : List PeerNo → PeerNo → Bool
 is_among qs p = list_any (same_peer p) qs
 
--- a peer at its place among others that ascend by number; where it stands there, it stays once
+-- puts a peer in its place among others that ascend by number; a peer that is already there stays, once
 abbrev pub put_in : PeerNo → List PeerNo → List PeerNo
 put_in p [] = p ∷ []
 put_in p (q ∷ qs) = by_order (nat_cmp q.0 p.0) (q ∷ put_in p qs) (q ∷ qs) (p ∷ q ∷ qs)
 
--- all but one
+-- all except one
 abbrev pub without : PeerNo → List PeerNo → List PeerNo
 without p qs = filter (λ q. not (same_peer p q)) qs

@@ -8,8 +8,8 @@ use indexmap::IndexMap;
 use std::alloc::{AllocError, Global};
 use std::marker::Model;
 
-/// Until when neighbours are not to be grafted to the mesh of a topic (gossipsub v1.1, "Prune Backoff"). Who was never
-/// pruned may be at once.
+/// Until when neighbours may not be grafted to the mesh of a topic (gossipsub v1.1, "Prune Backoff"). A neighbour that was
+/// never pruned may be grafted at once.
 #[derive(Drop)]
 pub struct Backoffs {
     ends: IndexMap<PeerNo, Millis>,
@@ -26,7 +26,7 @@ impl Model for Backoffs {
 }
 
 impl Backoffs {
-    /// Anyone may be grafted. It takes no memory.
+    /// Returns backoffs by which any neighbour may be grafted. It takes no memory.
     pub fn new(alloc: Global) -> Backoffs
         ensures { result ≡ [] }
     {
@@ -35,17 +35,17 @@ impl Backoffs {
         }
     }
 
-    /// From which moment on a neighbour may be grafted: 0 where it always may.
+    /// Returns the moment from which a neighbour may be grafted. It is 0 if the neighbour always may.
     pub fn until(&self, peer: PeerNo) -> Millis
         ensures { result ≡ until self.now peer }
     {
         self.ends.get(&peer).copied().unwrap_or(Millis(0))
     }
 
-    /// A neighbour is not to be grafted before a moment. Where it is not to be before a later one, that stands.
+    /// Notes that a neighbour may not be grafted before a moment. A later moment that was noted before stays.
     ///
     /// # Errors
-    /// `AllocError` where there was no memory; nothing is changed then.
+    /// `AllocError` if memory runs out. Nothing is changed then.
     pub fn note(&mut self, peer: PeerNo, end: Millis) -> Result<(), AllocError>
         ensures notes { OnOk result ((q : PeerNoValue)
             → until self.new q

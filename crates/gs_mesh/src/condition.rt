@@ -5,14 +5,14 @@ ghost use Rattle.gs_mesh.specs.MeshSteps.{condition_of};
 use crate::members::Member;
 use gs_params::Degrees;
 
-/// How a mesh stands by its members (gossipsub v1.0, "Mesh maintenance"; v1.1, "Outbound Mesh Quotas").
+/// The state of a mesh, judged by its members (gossipsub v1.0, "Mesh maintenance"; v1.1, "Outbound Mesh Quotas").
 #[derive(Clone, Copy, Debug, PartialEq, Eq)]
 pub enum Condition {
-    /// They are fewer than `d_low`.
+    /// The members are fewer than `d_low`.
     Few,
-    /// They are more than `d_high`.
+    /// The members are more than `d_high`.
     Many,
-    /// They are neither, and fewer than `d_out` are outbound.
+    /// The members are neither, and fewer than `d_out` of them are outbound.
     FewOutbound,
     /// Nothing is lacking.
     Balanced,

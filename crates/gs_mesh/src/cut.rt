@@ -1,4 +1,4 @@
-//! Who is kept where a mesh has too many members (gossipsub v1.1, "Heartbeat Maintenance" and "Outbound Mesh Quotas").
+//! Who is kept when a mesh has too many members (gossipsub v1.1, "Heartbeat Maintenance" and "Outbound Mesh Quotas").
 ghost use Rattle.std.specs.Prelude.{◌≡◌, ◌++◌, IfOk, OnOk, filter, length};
 ghost use Rattle.std.specs.Set.{is_member};
 ghost use Rattle.gs_base.specs.Names.{same_peer};
@@ -14,7 +14,7 @@ use std::alloc::{AllocError, Global};
 /// Picks `count` of these by the next words.
 ///
 /// # Errors
-/// `AllocError` where there was no memory; no word was drawn then.
+/// `AllocError` if memory runs out. No word was drawn then.
 pub(crate) fn pick_of<W: Words>(
     alloc: Global,
     candidates: &[Member],
@@ -32,7 +32,7 @@ pub(crate) fn pick_of<W: Words>(
     Ok(chosen)
 }
 
-/// Whether a member scores higher than another, or as high and has the lower number.
+/// Says whether a member scores higher than another, or scores the same and has the lower number.
 fn is_better(member: &Member, other: &Member) -> bool
     ensures { result ≡ is_better member.now other.now }
 {
@@ -61,7 +61,7 @@ fn best_by_score(alloc: Global, count: u64, members: &[Member]) -> Result<Vec<Pe
     Ok(peers)
 }
 
-/// How many outbound ones these lack of the number that the mesh should have.
+/// Returns how many outbound members are missing among these, compared with the number that the mesh should have.
 fn outbound_lacking(
     alloc: Global,
     degrees: &Degrees,
@@ -76,7 +76,7 @@ fn outbound_lacking(
     Ok(wanted.saturating_sub(there.len() as u64))
 }
 
-/// The best ones, and outbound ones that the words pick where those lack some.
+/// Returns the best ones. If outbound ones are missing among them, the words pick some, and these are added.
 fn first_kept<W: Words>(
     alloc: Global,
     degrees: &Degrees,
@@ -96,7 +96,7 @@ fn first_kept<W: Words>(
     Ok(first)
 }
 
-/// Others that the words pick, as many as are to be kept beside the first ones.
+/// Returns the other members that are kept after the first ones. The words pick them.
 fn others_kept<W: Words>(
     alloc: Global,
     degrees: &Degrees,
@@ -116,10 +116,11 @@ fn others_kept<W: Words>(
     Ok(picked)
 }
 
-/// Whom a mesh keeps that has too many members: the best by score, outbound ones and others, which the words pick.
+/// Returns who is kept when a mesh has too many members: the best by score, outbound ones, and others. The words pick the
+/// last two kinds.
 ///
 /// # Errors
-/// `AllocError` where there was no memory; words may have been drawn.
+/// `AllocError` if memory runs out. Words may have been drawn then.
 pub(crate) fn cut<W: Words>(
     alloc: Global,
     degrees: &Degrees,
@@ -138,7 +139,7 @@ pub(crate) fn cut<W: Words>(
     Ok(peers)
 }
 
-/// A cut by random words is a cut, and the members and the words determine it.
+/// A cut by random words is a cut that the rules allow. The members and the words determine it.
 pub fn a_cut_by_words_is_a_cut<W: Words>()
     ensures cut { EachIsACut W.word W.after }
     ensures determined { IsDetermined W.word W.after }

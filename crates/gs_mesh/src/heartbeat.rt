@@ -10,7 +10,7 @@ use gs_base::{PeerNo, Seq};
 use gs_params::{Degrees, Params, Words};
 use std::alloc::{AllocError, Global};
 
-/// A heartbeat: the parameters by which it goes, and its number.
+/// A heartbeat: its parameters and its number.
 #[derive(Clone, Copy)]
 pub struct Heartbeat<'a> {
     pub params: &'a Params,
@@ -26,23 +26,23 @@ pub struct MeshChange {
     pub grafted: Seq<PeerNo>,
 }
 
-/// Whom a mesh keeps by its number of members, and who comes into it.
+/// Who is kept in a mesh, judged by its members, and who comes into it.
 #[derive(Drop)]
 struct Mended {
     kept: Vec<PeerNo>,
     grafted: Vec<PeerNo>,
 }
 
-/// What a heartbeat does to the mesh of a topic (gossipsub v1.0, "Mesh maintenance"; v1.1, "Heartbeat Maintenance",
-/// "Outbound Mesh Quotas" and "Opportunistic Grafting"): who scores below 0 goes, too few members become more and too many
-/// become fewer, and outbound ones come in where they lack. Then, at each heartbeat whose number is a multiple of
-/// `opportunistic_ticks`, candidates come in that score above the median, where that lies below `opportunistic_threshold`,
-/// both in millionths. Members and candidates are listed by number, ascending; a candidate is one that may be grafted.
-/// `opportunistic_ticks` is 1 at least, as it is in parameters that pass their checks. What is chosen is chosen by the next
-/// words.
+/// Chooses what a heartbeat does to the mesh of a topic (gossipsub v1.0, "Mesh maintenance"; v1.1, "Heartbeat Maintenance",
+/// "Outbound Mesh Quotas" and "Opportunistic Grafting"). Members that score below 0 leave. Too few members become more, too
+/// many become fewer, and outbound ones come in if too few are there. Then the heartbeat may add candidates that score above
+/// the median. It does so if its number is a multiple of `opportunistic_ticks` and the median lies below
+/// `opportunistic_threshold`, both in millionths. Members and candidates are listed by number, ascending. A candidate is a
+/// neighbour that may be grafted. `opportunistic_ticks` is at least 1, as in parameters that pass their checks. The next
+/// words make the choices.
 ///
 /// # Errors
-/// `AllocError` where there was no memory; words may have been drawn.
+/// `AllocError` if memory runs out. Words may have been drawn then.
 pub fn choose_heartbeat<W: Words>(
     alloc: Global,
     heartbeat: Heartbeat<'_>,
@@ -68,7 +68,7 @@ pub fn choose_heartbeat<W: Words>(
     Ok(change)
 }
 
-/// Who goes, where these are kept, and who comes in, where these are grafted.
+/// Returns who leaves and who comes in, from the members that are kept and the candidates that are grafted.
 fn mesh_change(
     alloc: Global,
     mesh: &[Member],
@@ -86,7 +86,7 @@ fn mesh_change(
     })
 }
 
-/// The members, where these are kept and these are grafted.
+/// Returns the members after the change: those that are kept, and the candidates that are grafted.
 fn mended_members(
     alloc: Global,
     members: &[Member],
@@ -104,7 +104,7 @@ fn mended_members(
 
 // ---- the number of members
 
-/// Whom a mesh keeps, and who comes into it, as its number of members asks for it.
+/// Returns who is kept in a mesh and who comes into it, as the state of the mesh requires.
 fn mend<W: Words>(
     alloc: Global,
     degrees: &Degrees,
@@ -164,9 +164,9 @@ fn filled<W: Words>(
 
 // ---- the median (gossipsub v1.1, "Opportunistic Grafting")
 
-/// Whether the median score of the members lies below a score: more than half of them do, rounded down. Where there
-/// is no member, none does. No more is ever asked of the median, so nothing is sorted. The score comes by reference: a
-/// proof knows only the bits of a copied number.
+/// Says whether the median score of the members lies below a score. It does if the members below the score are more than
+/// half of all, rounded down. Without members it does not. Nothing else about the median is needed, so nothing is sorted.
+/// The score is passed by reference: a proof knows only the bits of a copied number.
 fn median_is_below(members: &[Member], score: &i128) -> bool
     ensures { result ≡ median_is_below members.now score.now }
 {
@@ -177,7 +177,7 @@ fn median_is_below(members: &[Member], score: &i128) -> bool
     members.len() / 2 < below
 }
 
-/// Whether a mesh of these members is to get better ones at a heartbeat of this number.
+/// Says whether a mesh with these members should get better ones at a heartbeat with this number.
 fn is_poor(params: &Params, number: u64, members: &[Member]) -> bool
     requires { 1 ≤ params.now.timing.opportunistic_ticks }
     ensures { result ≡ is_poor params.now number members.now }
@@ -201,7 +201,7 @@ fn above_median(
 }
 
 impl Heartbeat<'_> {
-    /// Who comes into a poor mesh, beside those that came in already: nobody, where it is not poor.
+    /// Returns who else comes into a poor mesh, after those that came in already. If the mesh is not poor, nobody does.
     fn opportunistic_grafts<W: Words>(
         self,
         alloc: Global,
@@ -229,9 +229,8 @@ impl Heartbeat<'_> {
 
 // ---- what choices keep
 
-/// Whatever the words, what a heartbeat chooses is what the rules allow: as many as they say, and of those that they
-/// name. Members and candidates ascend by number, and `d` has room for `d_score` and `d_out`, as in parameters that
-/// pass their checks.
+/// For any words, a heartbeat chooses what the rules allow: as many peers as they say, among those that they name. Members
+/// and candidates ascend by number. `d` has room for `d_score` and `d_out`, as in parameters that pass their checks.
 pub fn a_choice_by_words_is_a_mesh_step<W: Words>()
     ensures { EachIsAMeshStep W.word W.after }
 {}

@@ -1,5 +1,5 @@
-//! The meshes and fanouts of topics, and who is not to be grafted yet (gossipsub v1.0, "Router State"; v1.1, "Prune
-//! Backoff").
+//! The meshes and fanouts of topics, and the neighbours that may not be grafted yet (gossipsub v1.0, "Router State"; v1.1,
+//! "Prune Backoff").
 #![tactic(auto)]
 
 mod backoffs;

@@ -9,7 +9,7 @@ use std::alloc::{AllocError, Global};
 /// A member of a mesh, as a heartbeat sees it.
 #[derive(Clone, Copy, Debug, PartialEq, Eq)]
 pub struct Member {
-    /// Its number: of equal scores the lower one is better.
+    /// Its number. Of two members with equal scores, the one with the lower number is better.
     pub peer: PeerNo,
     /// Its score, in millionths.
     pub score: i128,

@@ -14,12 +14,12 @@ use indexmap::IndexMap;
 use std::alloc::{AllocError, Global};
 use std::marker::Model;
 
-/// The meshes and fanouts of topics, and who is not to be grafted to them yet (gossipsub v1.0, "Router State"; v1.1,
-/// "Prune Backoff").
+/// The meshes and fanouts of topics, and the neighbours that may not be grafted to them yet (gossipsub v1.0, "Router State";
+/// v1.1, "Prune Backoff").
 ///
-/// Where nothing was said of a topic, the peer is not subscribed to it, and it has no members, fanout or backoffs.
-/// A look-up, and a call that takes no memory, costs one look-up of its topic by hash; one that may take memory costs two,
-/// and an insertion where the topic is new. After `AllocError` each look-up answers as before.
+/// The peer is not subscribed to a topic that no call has changed. Such a topic has no members, fanout or backoffs. A
+/// look-up, or a call that takes no memory, costs one look-up of its topic by hash. A call that may take memory costs two,
+/// and an insertion if the topic is new. After `AllocError` each look-up answers as before.
 #[derive(Drop)]
 pub struct Meshes {
     alloc: Global,
@@ -37,7 +37,7 @@ impl Model for Meshes {
 }
 
 impl Meshes {
-    /// Nothing is kept of any topic. It takes no memory.
+    /// Returns meshes in which nothing is kept about any topic. It takes no memory.
     pub fn new(alloc: Global) -> Meshes
         ensures { result ≡ [] }
     {
@@ -49,7 +49,7 @@ impl Meshes {
 
     // ---- look-ups
 
-    /// Whether the peer is subscribed to a topic, and so has a mesh of it.
+    /// Says whether the peer is subscribed to a topic, and so has a mesh for it.
     pub fn is_joined(&self, topic: &Topic) -> bool
         ensures { result ≡ (kept self.now topic.now).is_joined }
     {
@@ -59,7 +59,7 @@ impl Meshes {
         }
     }
 
-    /// Who is in the mesh of a topic, ascending by number.
+    /// Returns who is in the mesh of a topic, ascending by number.
     pub fn members(&self, topic: &Topic) -> &[PeerNo]
         ensures value { result.now ≡ members self.now topic.now }
         ensures ascending { IsAscending result.now }
@@ -70,7 +70,7 @@ impl Meshes {
         }
     }
 
-    /// Who is in the fanout of a topic, ascending by number.
+    /// Returns who is in the fanout of a topic, ascending by number.
     pub fn fanout(&self, topic: &Topic) -> &[PeerNo]
         ensures value { result.now ≡ fanout self.now topic.now }
         ensures ascending { IsAscending result.now }
@@ -81,7 +81,7 @@ impl Meshes {
         }
     }
 
-    /// When the peer last published on a topic without being subscribed, if that still keeps a fanout.
+    /// Returns when the peer last published on a topic without being subscribed, if that still keeps a fanout.
     pub fn last_published(&self, topic: &Topic) -> Option<Millis>
         ensures { result ≡ (kept self.now topic.now).last_published }
     {
@@ -91,7 +91,7 @@ impl Meshes {
         }
     }
 
-    /// From which moment on a neighbour may be grafted to the mesh of a topic: 0 where it always may.
+    /// Returns the moment from which a neighbour may be grafted to the mesh of a topic. It is 0 if the neighbour always may.
     pub fn backoff_until(&self, peer: PeerNo, topic: &Topic) -> Millis
         ensures { result ≡ backoff_until self.now peer topic.now }
     {
@@ -103,11 +103,11 @@ impl Meshes {
 
     // ---- subscriptions
 
-    /// The peer subscribes to a topic. Its mesh and its fanout stay (gossipsub v1.0, "Topic Membership"). A topic that is
-    /// known is not cloned.
+    /// Subscribes the peer to a topic. The topic's mesh and fanout stay (gossipsub v1.0, "Topic Membership"). A known topic
+    /// is not cloned.
     ///
     /// # Errors
-    /// `AllocError` where there was no memory; each look-up answers as before.
+    /// `AllocError` if memory runs out. Each look-up then answers as before.
     pub fn join(&mut self, topic: &Topic) -> Result<(), AllocError>
         ensures joins { OnOk result (Puts self.old self.new topic.now
             (record (kept self.old topic.now) { is_joined = true })) }
@@ -118,8 +118,8 @@ impl Meshes {
         Ok(())
     }
 
-    /// The peer leaves a topic, and its mesh ends (gossipsub v1.0, "Topic Membership"). The answer is who was in it,
-    /// ascending by number. It takes no memory.
+    /// Unsubscribes the peer from a topic, and ends its mesh (gossipsub v1.0, "Topic Membership"). Returns who was in the
+    /// mesh, ascending by number. It takes no memory.
     pub fn leave(&mut self, topic: &Topic) -> Vec<PeerNo>
         ensures value { result.items ≡ members self.old topic.now }
         ensures ascending { IsAscending result.items }
@@ -131,10 +131,10 @@ impl Meshes {
 
     // ---- the mesh
 
-    /// A peer comes into the mesh of a topic (gossipsub v1.0, "Control Messages", GRAFT). Where it is in it, it stays.
+    /// Adds a peer to the mesh of a topic (gossipsub v1.0, "Control Messages", GRAFT). A peer that is already in it stays.
     ///
     /// # Errors
-    /// `AllocError` where there was no memory; each look-up answers as before.
+    /// `AllocError` if memory runs out. Each look-up then answers as before.
     pub fn graft(&mut self, peer: PeerNo, topic: &Topic) -> Result<(), AllocError>
         ensures grafts { OnOk result (Puts self.old self.new topic.now
             (record (kept self.old topic.now) { members = put_in peer (members self.old topic.now) })) }
@@ -144,7 +144,7 @@ impl Meshes {
         changes::graft(&mut self.topics, peer, topic)
     }
 
-    /// A peer leaves the mesh of a topic (gossipsub v1.0, "Control Messages", PRUNE). The answer is whether it was in it.
+    /// Removes a peer from the mesh of a topic (gossipsub v1.0, "Control Messages", PRUNE). Says whether the peer was in it.
     /// It takes no memory.
     pub fn prune(&mut self, peer: PeerNo, topic: &Topic) -> bool
         ensures answer { result ≡ is_among (members self.old topic.now) peer }
@@ -154,11 +154,11 @@ impl Meshes {
         changes::prune(&mut self.topics, peer, topic)
     }
 
-    /// A neighbour is not to be grafted to the mesh of a topic before a moment. Where it is not to be before a later one,
-    /// that stands (gossipsub v1.1, "Prune Backoff").
+    /// Notes that a neighbour may not be grafted to the mesh of a topic before a moment. A later moment that was noted
+    /// before stays (gossipsub v1.1, "Prune Backoff").
     ///
     /// # Errors
-    /// `AllocError` where there was no memory; each look-up answers as before.
+    /// `AllocError` if memory runs out. Each look-up then answers as before.
     pub fn note_backoff(
         &mut self,
         peer: PeerNo,
@@ -179,10 +179,10 @@ impl Meshes {
 
     // ---- the fanout
 
-    /// A peer comes into the fanout of a topic (gossipsub v1.0, "Message Processing"). Where it is in it, it stays.
+    /// Adds a peer to the fanout of a topic (gossipsub v1.0, "Message Processing"). A peer that is already in it stays.
     ///
     /// # Errors
-    /// `AllocError` where there was no memory; each look-up answers as before.
+    /// `AllocError` if memory runs out. Each look-up then answers as before.
     pub fn fan(&mut self, peer: PeerNo, topic: &Topic) -> Result<(), AllocError>
         ensures fans { OnOk result (Puts self.old self.new topic.now
             (record (kept self.old topic.now) { fanout = put_in peer (fanout self.old topic.now) })) }
@@ -192,7 +192,7 @@ impl Meshes {
         changes::fan(&mut self.topics, peer, topic)
     }
 
-    /// A peer leaves the fanout of a topic (gossipsub v1.0, "Fanout maintenance"). The answer is whether it was in it. It
+    /// Removes a peer from the fanout of a topic (gossipsub v1.0, "Fanout maintenance"). Says whether the peer was in it. It
     /// takes no memory.
     pub fn unfan(&mut self, peer: PeerNo, topic: &Topic) -> bool
         ensures answer { result ≡ is_among (fanout self.old topic.now) peer }
@@ -202,11 +202,11 @@ impl Meshes {
         changes::unfan(&mut self.topics, peer, topic)
     }
 
-    /// The peer published on a topic without being subscribed, which keeps its fanout (gossipsub v1.0, "Fanout
-    /// maintenance").
+    /// Notes that the peer published on a topic without being subscribed, which keeps the topic's fanout (gossipsub v1.0,
+    /// "Fanout maintenance").
     ///
     /// # Errors
-    /// `AllocError` where there was no memory; each look-up answers as before.
+    /// `AllocError` if memory runs out. Each look-up then answers as before.
     pub fn publish_at(&mut self, topic: &Topic, now: Millis) -> Result<(), AllocError>
         ensures publishes { OnOk result (Puts self.old self.new topic.now
             (record (kept self.old topic.now) { last_published = Some now })) }
@@ -217,7 +217,8 @@ impl Meshes {
         Ok(())
     }
 
-    /// The fanout of a topic ends, with the moment that kept it (gossipsub v1.0, "Fanout maintenance"). It takes no memory.
+    /// Ends the fanout of a topic, and forgets the moment that kept it (gossipsub v1.0, "Fanout maintenance"). It takes no
+    /// memory.
     pub fn drop_fanout(&mut self, topic: &Topic)
         ensures { Puts self.old self.new topic.now
             (record (kept self.old topic.now) { fanout = []; last_published = None }) }

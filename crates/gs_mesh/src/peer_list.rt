@@ -7,7 +7,7 @@ use std::alloc::{AllocError, Global};
 use std::marker::Model;
 use std::mem;
 
-/// Peers, ascending by number, none of them twice.
+/// Peers, each once, ascending by number.
 #[derive(Drop)]
 pub struct PeerList {
     alloc: Global,
@@ -27,7 +27,7 @@ impl Model for PeerList {
 }
 
 impl PeerList {
-    /// No peer. It takes no memory.
+    /// Returns a list without peers. It takes no memory.
     pub fn new(alloc: Global) -> PeerList
         ensures { result ≡ [] }
     {
@@ -37,7 +37,7 @@ impl PeerList {
         }
     }
 
-    /// The peers, ascending by number.
+    /// Returns the peers, ascending by number.
     pub fn as_slice(&self) -> &[PeerNo]
         ensures value { result.now ≡ self.now }
         ensures ascending { IsAscending result.now }
@@ -45,7 +45,7 @@ impl PeerList {
         self.peers.as_slice()
     }
 
-    /// Whether a peer is one of them.
+    /// Says whether a peer is in the list.
     pub fn contains(&self, peer: PeerNo) -> bool
         ensures { result ≡ is_among self.now peer }
     {
@@ -55,7 +55,7 @@ impl PeerList {
     /// Puts a peer in its place, unless it is there.
     ///
     /// # Errors
-    /// `AllocError` where there was no memory; nothing is changed then.
+    /// `AllocError` if memory runs out. Nothing is changed then.
     pub fn insert(&mut self, peer: PeerNo) -> Result<(), AllocError>
         ensures joins { OnOk result (self.new ≡ put_in peer self.old) }
         ensures unchanged { OnErr result (self.new ≡ self.old) }
@@ -63,7 +63,7 @@ impl PeerList {
         put(&mut self.peers, peer)
     }
 
-    /// Takes a peer out. The answer is whether it was there. It takes no memory.
+    /// Takes a peer out. Says whether it was there. It takes no memory.
     pub fn remove(&mut self, peer: PeerNo) -> bool
         ensures answer { result ≡ is_among self.old peer }
         ensures leaves { self.new ≡ without peer self.old }
@@ -80,7 +80,7 @@ impl PeerList {
         self.peers.clear();
     }
 
-    /// Takes all peers out, and gives them. It takes no memory.
+    /// Takes all peers out, and returns them. It takes no memory.
     pub fn take(&mut self) -> Vec<PeerNo>
         ensures value { result.items ≡ self.old }
         ensures ascending { IsAscending result.items }
@@ -93,7 +93,7 @@ impl PeerList {
 /// Puts a peer in its place among ascending ones, unless it is there.
 ///
 /// # Errors
-/// `AllocError` where there was no memory; nothing is changed then.
+/// `AllocError` if memory runs out. Nothing is changed then.
 fn put(peers: &mut Vec<PeerNo>, peer: PeerNo) -> Result<(), AllocError>
     requires { IsAscending peers.old.items }
     ensures joins { OnOk result (peers.new.items ≡ put_in peer peers.old.items) }

@@ -6,7 +6,7 @@ use crate::peer_list::PeerList;
 use gs_base::Millis;
 use std::alloc::Global;
 
-/// What is kept of one topic (gossipsub v1.0, "Router State").
+/// What is kept about one topic (gossipsub v1.0, "Router State").
 #[derive(Drop)]
 pub struct TopicMesh {
     /// Whether the peer is subscribed to it.
@@ -17,12 +17,12 @@ pub struct TopicMesh {
     pub fanout: PeerList,
     /// When the peer last published on it without being subscribed, for as long as that keeps a fanout.
     pub last_published: Option<Millis>,
-    /// Until when neighbours are not to be grafted. It outlasts a subscription.
+    /// Until when neighbours may not be grafted. It outlasts a subscription.
     pub backoffs: Backoffs,
 }
 
 impl TopicMesh {
-    /// Nothing. It takes no memory.
+    /// Returns what is kept at first, which is nothing. It takes no memory.
     pub(crate) fn new(alloc: Global) -> TopicMesh
         ensures { result ≡ nothing }
     {

@@ -1,4 +1,4 @@
--- The links of dials: whom they join, and what went over them.
+-- The links of dials: which peers they join, and what went over them.
 use Rattle.std.specs.Prelude.{◌≡◌, ◌<◌, ℕ, true, false, if◌then◌else◌, List, [], ◌∷◌, ◌++◌, map, flat_map, Vec}
 use Rattle.std.specs.List.{AllByRecursion}
 use Rattle.std.specs.declared.alloc.Global.{Global}
@@ -11,7 +11,7 @@ use Rattle.gs_ends.specs.Ends.{Joint, linked}
 use Rattle.gs_ends.specs.Pairs.{Pair, accepted_for, joints_of, taken_from}
 use Rattle.gs_seats.specs.ListsByPeer.{list_at}
 
--- a dial joins two different ones of this many peers
+-- a dial joins two different peers with numbers below this
 abbrev pub JoinsTwoOf : ℕ → Dial → Type 0
 JoinsTwoOf peers dial = (dial.from.0 < peers) × (dial.to.0 < peers) × (same_peer dial.from dial.to ≡ false)
 
@@ -23,13 +23,14 @@ pub record Dialled : Type 0 where
   pub there : LinkId
   pub back : LinkId
 
--- what a dial gives a peer: the one that dials sends there and takes from the link back, the other sends back
+-- What a dial gives a peer. The one that dials sends there and takes from the link back. The other one sends back and takes
+-- from the link there.
 abbrev pub gives : Dialled → PeerNo → List Joint
 gives d p =
     if same_peer d.dial.from p then linked d.dial.to d.there d.back ∷ []
     else (if same_peer d.dial.to p then linked d.dial.from d.back d.there ∷ [] else [])
 
--- all that a peer is given, in the order of the dials
+-- all that the dials give a peer, in their order
 abbrev pub assigned : List Dialled → PeerNo → List Joint
 assigned dialled p = flat_map (λ d. gives d p) dialled
 
@@ -53,7 +54,7 @@ HasCapacity n pair = (pair.1.capacity ≡ n) × (pair.2.capacity ≡ n)
 abbrev pub IsClosed : Pair → Type 0
 IsClosed pair = closes pair.2.taken ≡ true
 
--- this holds of each end of each peer
+-- this holds for each pair of ends of each peer
 abbrev pub AtEach : (Pair → Type 0) → List (Vec Pair Global) → Type 0
 AtEach P lists = (p : PeerNo) → AllByRecursion P (list_at lists p.0)
 
@@ -61,13 +62,13 @@ AtEach P lists = (p : PeerNo) → AllByRecursion P (list_at lists p.0)
 abbrev pub HasReached : List (Vec Pair Global) → PeerNo → PeerNo → Type 0
 HasReached lists p q = accepted_for (list_at lists p.0) q ≡ taken_from (list_at lists q.0) p
 
--- what either peer of a dial accepted for the other has reached it
+-- what each peer of a dial accepted for the other has reached the other
 abbrev pub IsExchanged : List (Vec Pair Global) → Dial → Type 0
 IsExchanged lists dial = HasReached lists dial.from dial.to × HasReached lists dial.to dial.from
 
 -- ---- one dial more
 
--- The lists of ends grew by those of one dial, which are of this capacity, and over which nothing went.
+-- The lists of ends grew by those of one dial. These have this capacity, and nothing went over them.
 pub record IsWiredOn (capacity : ℕ) (dial : Dial) (old new : List (Vec Pair Global)) : Type 0 where
   pub dialled : Dialled
   pub of_dial : dialled.dial ≡ dial

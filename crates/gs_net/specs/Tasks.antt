@@ -1,4 +1,4 @@
--- Which ends a task may be built with, and what is known of it then.
+-- Which ends a task may be built with, and what is known about it then.
 use Rattle.std.specs.Prelude.{◌≡◌, ◌<◌, ◌%◌, ℕ, true, List, Some, length, map}
 use Rattle.std.specs.List.{AllByRecursion, IsDistinct, range_with_len}
 use Rattle.std.specs.declared.vec.Vec.{Vec}
@@ -18,8 +18,8 @@ use Rattle.gs_seats.specs.ListsByPeer.{list_at}
 use Rattle.gs_net.specs.Dials.{HasCapacity, IsFresh}
 use Rattle.gs_seats.specs.Rounds.{first_words, lines_in, neighbours, peer_no, seat_in}
 
--- There are ends to and from each neighbour, to none of them twice, of links of the plan's capacity, and nothing has gone
--- over them.
+-- There are ends to and from each neighbour, and no neighbour stands twice. The links have the plan's capacity, and nothing has
+-- gone over them.
 pub record AreUsable (plan : Plan) (p : PeerNo) (pairs : List Pair) : Type 0 where
   pub known : AllByRecursion (λ q. has (joints_of pairs) q ≡ true) (neighbours plan p)
   pub apart : IsDistinct same_peer (peers_in pairs)
@@ -30,7 +30,7 @@ pub record AreUsable (plan : Plan) (p : PeerNo) (pairs : List Pair) : Type 0 whe
 abbrev pub first_numbers : ℕ → List PeerNo
 first_numbers count = map peer_no (range_with_len 0 count)
 
--- There are lines and ends for each peer of the plan: those of its script, and ends that it may use.
+-- There are lines and ends for each peer of the plan: its lines of the script, and ends that it may use.
 pub record AreParts (plan : Plan) (lines : List (Vec (ℕ × Line) Global)) (ends : List (Vec Pair Global)) : Type 0 where
   pub lists_of_lines : length lines ≡ length plan.peers
   pub own : (p : PeerNo) → p.0 < length plan.peers → list_at lines p.0 ≡ lines_in plan p
@@ -48,7 +48,7 @@ pub record IsAssignedIn (plan : Plan) (p : PeerNo) (a : Assignment) : Type 0 whe
   pub worker : a.worker ≡ p.0 % plan.workers
 
 module _ {G S : Type 0} (seen : EndsOf S) where
-  -- A task of this peer, by its words, with ends of these links, which this flag stops.
+  -- A task of this peer with the peer's random words and ends of these links. This flag stops it.
   pub record IsTask (plan : Plan) (p : PeerNo) (flag : FlagId) (of : List Joint) (task : PeerTask G S) : Type 0 where
     pub can : CanPoll seen task
     pub is : given_of seen.joints task ≡ Some (seat_in plan p, first_words plan p, of)

@@ -1,4 +1,4 @@
-//! The links of all dials of a plan: opened before a run, and settled after it.
+//! The links of all dials of a plan. They are opened before a run, and settled after it.
 mod settlement;
 mod wiring;
 

@@ -15,15 +15,14 @@ use std::random::RandomSource;
 use std::sync::{Arc, Wait};
 use std::thread::Threads;
 
-/// Runs the tasks on `workers` worker threads to their ends. Gives what each of them gave, in the
-/// order of the tasks, and the number of threads. The task at place i runs on worker i mod `workers`.
-/// The workers have ended when it returns.
+/// Runs the tasks on `workers` worker threads to their ends, and returns their outputs in the order of the tasks. It also
+/// returns the number of threads. The task at place i runs on worker i mod `workers`. The workers have ended when it returns.
 ///
-/// One flag stops the tasks and is set by the workers.
+/// The workers set the flag `stop`, which must be the flag of each task.
 ///
 /// # Errors
-/// `NoMemory`; and `NoThread` where a thread could not be started or could not wait. The flag is set
-/// before the workers that were started are joined, so that the tasks end.
+/// `NoMemory` if memory runs out, and `NoThread` if a thread could not be started or could not wait. The flag is set before
+/// the workers that still run are joined, so that the tasks end.
 pub fn run_tasks<
     G: Gate + Send,
     S: Ends + Send,
@@ -44,7 +43,7 @@ pub fn run_tasks<
     run_all(rt, workers, stop, tasks)
 }
 
-/// What a fault of the workers is to a run.
+/// Returns the fault of a run in which the workers had this fault.
 pub fn fault_of(fault: WorkerFault) -> NetFault
     ensures { result ≡ of_workers fault }
 {

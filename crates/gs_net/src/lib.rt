@@ -1,4 +1,4 @@
-//! Gossipsub peers on worker threads, over links: runs a plan, and gives what is left of each peer.
+//! Gossipsub peers on worker threads, over links: runs a plan, and returns what remains of each peer.
 #![tactic(auto)]
 
 mod dials;

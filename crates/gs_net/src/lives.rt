@@ -12,18 +12,17 @@ use gs_seats::NetFault;
 use std::alloc::Global;
 use std::sync::Wait;
 
-/// What is left of each peer by number, and the ends of each.
+/// What remains of each peer, by number, and the ends of each.
 #[derive(Drop)]
 pub struct Lives {
     pub peers: Vec<(PeerNo, Finished)>,
     pub ends: Vec<Vec<(PeerNo, LinkTx, LinkRx)>>,
 }
 
-/// Takes apart what the tasks of all peers gave, by number.
+/// Splits what the tasks of all peers gave into what remains of each peer and its ends, by number.
 ///
 /// # Errors
-/// `NoMemory` where a task gave a fault or there was no memory here, with the lowest peer that ran
-/// out of memory, if one did.
+/// `NoMemory` if a task gave a fault, or if memory runs out here. It names the lowest peer that ran out of memory, if one did.
 pub fn lives_of<R: Wait + Drop>(
     alloc: Global,
     results: Vec<Result<gs_peer::FinishedTask<LinkEnds<R>>, PeerFault>>,
@@ -67,7 +66,7 @@ pub fn lives_of<R: Wait + Drop>(
     Ok(Lives { peers, ends })
 }
 
-/// The lowest peer whose task ran out of memory.
+/// Returns the lowest peer whose task ran out of memory, if one did.
 fn first_without_memory<R: Wait + Drop>(
     results: &[Result<gs_peer::FinishedTask<LinkEnds<R>>, PeerFault>],
 ) -> Option<PeerNo>
@@ -80,7 +79,7 @@ fn first_without_memory<R: Wait + Drop>(
     }
 }
 
-/// The place of the first task that ran out of memory.
+/// Returns the place of the first task that ran out of memory, if one did.
 fn place_of_want<R: Wait + Drop>(
     results: &[Result<gs_peer::FinishedTask<LinkEnds<R>>, PeerFault>],
 ) -> Option<usize>

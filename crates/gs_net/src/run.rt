@@ -22,15 +22,14 @@ use std::random::RandomSource;
 use std::sync::{Arc, Wait};
 use std::thread::Threads;
 
-/// Runs the peers of a plan on worker threads: peer i on worker i mod `workers`. What one peer says
-/// to another goes over a link of their own, and the gate hears of each round that a peer begins.
-/// All threads have ended when it answers. Its clause speaks only of the report. Contracts within this
-/// crate speak of workers and links, and only tests of the gate and of threads that end.
+/// Runs the peers of a plan on worker threads, and returns the report. Peer i runs on worker i mod `workers`. What one peer says
+/// to another goes over a link of their own. The gate is called for each round that a peer begins. All threads have ended when
+/// the function returns. Its clause speaks only about the report. Contracts within this crate speak about workers and links.
+/// Only tests show that the gate is called and that threads end.
 ///
 /// # Errors
-/// `NoMemory` with the lowest peer that ran out of memory, or with none where memory ran out outside
-/// of the peers; `NoThread` where a thread could not be started or driven. No clause says which fault
-/// comes, or why.
+/// `NoMemory` with the lowest peer that ran out of memory, or with none if memory ran out outside of the peers. `NoThread` if a
+/// thread could not be started or could not wait. No clause says which fault comes, or why.
 pub fn run_net<G, R>(rt: &R, plan: &Plan, gate: &G) -> Result<Report, NetFault>
 where
     G: Gate + Sync,
@@ -41,7 +40,7 @@ where
     run_with(rt, plan, gate)
 }
 
-/// `run_net` with a gate that can be copied: each task keeps one.
+/// `run_net` with a gate that can be copied. Each task keeps a copy.
 fn run_with<G, R>(rt: &R, plan: &Plan, gate: G) -> Result<Report, NetFault>
 where
     G: Gate + Copy + Send,
@@ -77,10 +76,10 @@ where
     })
 }
 
-/// Drives the tasks on as many threads as the plan says. The flag is that of each task.
+/// Drives the tasks on as many threads as the plan says. The flag must be that of each task.
 ///
 /// # Errors
-/// What the workers' fault is to a run.
+/// The fault of a run in which the workers had their fault (`fault_of`).
 fn drive<G, S, R>(
     rt: &R,
     plan: &Plan,

@@ -27,15 +27,15 @@ pub struct Builder<'p, G: Gate + Copy, R: Wait + Drop + Copy> {
     pub plan: &'p Plan,
     pub gate: G,
     pub stop: &'p Arc<StopFlag>,
-    /// What is known of payloads on each worker.
+    /// What is known about payloads on each worker.
     pub payloads: &'p [Arc<Mutex<Payloads>>],
 }
 
 impl<'p, G: Gate + Copy, R: Wait + Drop + Copy> Builder<'p, G, R> {
-    /// The tasks of all peers, by number. Each is given the list of its lines and that of its ends.
+    /// Returns the tasks of all peers, by number. Each task is given the list of its lines and the list of its ends.
     ///
     /// # Errors
-    /// `NoMemory` with the lowest peer for whose task there was none.
+    /// `NoMemory` with the lowest peer whose task was not built, if memory runs out.
     pub fn tasks(
         &self,
         lines: Vec<Vec<(usize, Line)>>,
@@ -88,7 +88,7 @@ impl<'p, G: Gate + Copy, R: Wait + Drop + Copy> Builder<'p, G, R> {
         Ok(())
     }
 
-    /// What is known of payloads on a worker.
+    /// Returns what is known about payloads on a worker.
     fn payloads_of(&self, worker: usize) -> Result<Arc<Mutex<Payloads>>, AllocError> {
         let payloads = match self.payloads.get(worker) {
             Some(payloads) => Arc::try_clone(payloads)?,
@@ -129,10 +129,10 @@ impl<'p, G: Gate + Copy, R: Wait + Drop + Copy> Builder<'p, G, R> {
     }
 }
 
-/// What is known of payloads: one for each worker.
+/// Creates what the tasks of each worker share about payloads, for this many workers. Nothing is known in them yet.
 ///
 /// # Errors
-/// `AllocError` where there was no memory for it.
+/// `AllocError` if memory runs out.
 pub fn payloads_of_workers(
     alloc: Global,
     workers: u64,
@@ -144,7 +144,7 @@ pub fn payloads_of_workers(
     Ok(all)
 }
 
-/// What a peer is given, with these neighbours and its lines.
+/// Returns what a peer is given, with these neighbours and its lines.
 fn assignment_of(
     alloc: Global,
     plan: &Plan,

@@ -1,4 +1,4 @@
--- How tables go on with one opinion more, and what they show.
+-- How one more opinion changes tables, and what tables show.
 use Rattle.std.specs.Prelude.{◌≡◌, ℕ, ℤ, ◌+◌, int_lt, Bool, true, if◌then◌else◌, List, filter, length, None, Option, Some, slice_get}
 use Rattle.std.specs.List.{AllZip}
 use Rattle.gs_base.specs.declared.names.PeerNo.{PeerNo}
@@ -23,11 +23,11 @@ is_lower amount (Some y) x = int_lt (amount x) (amount y)
 abbrev pub lower : {A : Type 0} → (A → ℤ) → Option A → A → Option A
 lower amount found x = if is_lower amount found x then Some x else found
 
--- of what one peer scores another
+-- of what one peer scores another, with one more opinion
 abbrev pub lower_opinion : Opinion → Option Lowest → Option Lowest
 lower_opinion o found = lower (λ (x : Lowest). x.score) found (lowest_in o)
 
--- of a round
+-- of a round, with one more score
 abbrev pub lower_score : ℤ → Option ℤ → Option ℤ
 lower_score score found = lower (λ z. z) found score
 
@@ -39,7 +39,7 @@ lowered_between o rows = changed_at (λ row. changed_at (lower_opinion o) row o.
 abbrev pub lowered_in_round : ℕ → ℤ → List (Option ℤ) → List (Option ℤ)
 lowered_in_round round score cells = changed_at (lower_score score) cells round
 
--- a peer is one of the members: what the flag of its number says, and what the group says of a number that has none
+-- a peer is one of the members: the flag of its number says so, or the group does where the number has no flag
 abbrev pub is_member : Members → PeerNo → Bool
 is_member members q = elim (slice_get members.flags q.0) [ None ↦ is_chosen members.group.now q | Some flag ↦ flag ]
 
@@ -47,12 +47,12 @@ is_member members q = elim (slice_get members.flags q.0) [ None ↦ is_chosen me
 abbrev pub member_flags : Chosen → ℕ → List Bool
 member_flags group count = by_number (λ n. is_chosen group (peer_no n)) count
 
--- the rounds of a group with one opinion more
+-- the rounds of a group, with one more opinion
 abbrev pub lowered_group : ℕ → Opinion → GroupRounds → GroupRounds
 lowered_group round o x =
     if is_member x.members o.of then record x { rounds = lowered_in_round round o.score x.rounds } else x
 
--- rows in which there is nothing
+-- rows of empty cells
 abbrev pub empty_rows : ℕ → List (List (Option Lowest))
 empty_rows count = by_number (λ n. by_number (λ m. None) count) count
 

@@ -19,7 +19,7 @@ use Rattle.gs_opinions.specs.declared.opinion.Opinion.{Opinion}
 use Rattle.gs_opinions.specs.declared.traces.Look.{Look}
 use Rattle.gs_opinions.specs.declared.traces.Look.TheVariants.{After, Around, Never}
 
--- when scores are looked at, where this happens
+-- when scores are looked at, by the event
 abbrev pub look_at : Event → Look
 look_at BeatBegin = After
 look_at Decay = Around
@@ -50,18 +50,18 @@ opinion_of plan p L at q = record { by = p; of = q; score = score (peer_in plan 
 abbrev pub opinions_at : Plan → PeerNo → Entries → Millis → List Opinion
 opinions_at plan p L at = map (opinion_of plan p L at) (neighbours plan p)
 
--- just before an entry after a trace, at its moment
+-- the opinions just before an entry that follows a trace, at the entry's moment
 abbrev pub opinions_before : Plan → PeerNo → Entry → Entries → List Opinion
 opinions_before plan p e L = if is_before (look_at e.event) then opinions_at plan p L e.at else []
 
--- after it
+-- the opinions after that entry
 abbrev pub opinions_after : Plan → PeerNo → Entry → Entries → List Opinion
 opinions_after plan p e L = if is_after (look_at e.event) then opinions_at plan p (e ∷ L) e.at else []
 
 abbrev pub entry_opinions : Plan → PeerNo → Entry → Entries → List Opinion
 entry_opinions plan p e L = opinions_before plan p e L ++ opinions_after plan p e L
 
--- in a trace of a peer, the oldest entry first
+-- the opinions in a trace of a peer, from the oldest entry on
 abbrev pub trace_opinions : Plan → PeerNo → Entries → List Opinion
 trace_opinions plan p [] = []
 trace_opinions plan p (e ∷ L) = trace_opinions plan p L ++ entry_opinions plan p e L
@@ -77,6 +77,6 @@ is_of chosen x = is_chosen chosen x.0
 abbrev pub opinions_by : Plan → Chosen → List (PeerNo × Finished) → List Opinion
 opinions_by plan by peers = flat_map (peer_opinions plan) (filter (is_of by) peers)
 
--- in a run
+-- all such opinions in a run
 abbrev pub opinions : Plan → Report → Chosen → List Opinion
 opinions plan report by = opinions_by plan by report.peers.items

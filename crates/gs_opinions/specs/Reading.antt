@@ -12,12 +12,12 @@ use Rattle.gs_opinions.specs.declared.traces.Judge.{Judge}
 use Rattle.gs_opinions.specs.Noting.{Shows}
 use Rattle.gs_opinions.specs.Opinions.{trace_opinions}
 
--- a reader of the peer's trace has seen these entries, the newest first, and those are left
+-- a reader of the peer's trace has seen the entries `L`, the newest first, and has yet to see those of `left`
 abbrev pub FollowsPeer : Follower → Judge → Entries → List Entry → Type 0
 FollowsPeer follower judge L left =
     Follows follower (record { peer = peer_in judge.plan.now judge.peer; before = L; left = left })
 
--- the later tables show a trace of the peer beside what the earlier ones show
+-- the later tables show what the earlier ones show, and also a trace of the peer
 abbrev pub ShowsMore : Judge → Tables → Tables → Entries → Type 0
 ShowsMore judge old new L =
     (groups : List Chosen) (os : List Opinion) → Shows judge.plan.now groups old os

@@ -1,4 +1,4 @@
--- The lowest opinions of a run: of each two peers, and of each round.
+-- The lowest opinions of a run: for any two peers, and for each round.
 use Rattle.std.specs.Prelude.{ℕ, ℤ, ◌+◌, ◌/◌, Bool, ◌&&◌, nat_eq, List, [], ◌∷◌, filter, map, Option, None, Some, option_map}
 use Rattle.std.specs.List.{flat_map, range_with_len}
 use Rattle.gs_base.specs.declared.names.Millis.{Millis}
@@ -30,16 +30,16 @@ lowest_in o = record { score = o.score; at = o.at }
 abbrev pub is_between : PeerNo → PeerNo → Opinion → Bool
 is_between p q o = same_peer o.by p && same_peer o.of q
 
--- the lowest of that, the first time that it is
+-- the lowest of these opinions, at its first moment
 abbrev pub lowest_between : List Opinion → PeerNo → PeerNo → Option Lowest
 lowest_between os p q = option_map lowest_in (lowest score_in (filter (is_between p q) os))
 
--- a row where there is one
+-- a row, if there is a lowest opinion
 abbrev pub pair_row : PeerNo → PeerNo → Option Lowest → List PairOpinion
 pair_row p q None = []
 pair_row p q (Some x) = record { by = p; of = q; lowest = x } ∷ []
 
--- the rows of what one peer scores each other by number, and of all peers
+-- the rows for what one peer scores each other, by number; and those of all peers
 abbrev pub pairs_by : Plan → List Opinion → PeerNo → List PairOpinion
 pairs_by plan os p = flat_map (λ q. pair_row p q (lowest_between os p q)) (numbers plan)
 
@@ -59,7 +59,7 @@ is_in plan r o = nat_eq (round_of plan o.at) r
 abbrev pub lowest_in_round : Plan → List Opinion → ℕ → Option ℤ
 lowest_in_round plan os r = option_map score_in (lowest score_in (filter (is_in plan r) os))
 
--- it is of one of a group
+-- the opinion is about a member of a group
 abbrev pub is_about : Chosen → Opinion → Bool
 is_about group o = is_chosen group o.of
 
@@ -70,7 +70,7 @@ round_row plan groups os r = record {
   groups = map (λ group. lowest_in_round plan (filter (is_about group) os) r) groups;
 }
 
--- each round, the last one of the plan included
+-- each round, including the last one of the plan
 abbrev pub rounds_of : Plan → List Chosen → List Opinion → List RoundOpinions
 rounds_of plan groups os = map (round_row plan groups os) (range_with_len 0 (plan.rounds + 1))
 
@@ -79,6 +79,6 @@ rounds_of plan groups os = map (round_row plan groups os) (range_with_len 0 (pla
 abbrev pub lowest_opinions : Plan → List Chosen → List Opinion → Opinions
 lowest_opinions plan groups os = record { pairs = pairs_of plan os; rounds = rounds_of plan groups os }
 
--- those of a run: of what these peers score, and of each group
+-- the lowest opinions of a run: those of these peers, and those about each group
 abbrev pub opinions_of : Plan → Report → Chosen → List Chosen → Opinions
 opinions_of plan report by groups = lowest_opinions plan groups (opinions plan report by)

@@ -20,7 +20,7 @@ impl<T: Copy> Model for Cells<T> {
 }
 
 impl<T: Copy> Cells<T> {
-    /// With no number at all. It takes no memory.
+    /// Cells for no number at all, which take no memory.
     pub(crate) fn new(alloc: Global) -> Cells<T>
         ensures { result ≡ [] }
     {

@@ -1,4 +1,4 @@
-//! What the lowest opinions promise. The law holds of definitions only, and its function does nothing.
+//! A law about the lowest opinions. It is only about definitions, and its function does nothing.
 ghost use Rattle.std.specs.Prelude.{◌≡◌, ◌≤ℤ◌, ◌<ℤ◌, [], ◌++◌, ◌∷◌, List, None, Some, filter};
 ghost use Rattle.std.specs.List.{AllByRecursion};
 ghost use Rattle.gs_base.specs.declared.names.PeerNo.{PeerNo as PeerNoValue};
@@ -6,8 +6,8 @@ ghost use Rattle.gs_opinions.specs.declared.opinion.Lowest.{Lowest as LowestValu
 ghost use Rattle.gs_opinions.specs.declared.opinion.Opinion.{Opinion as OpinionValue};
 ghost use Rattle.gs_opinions.specs.Runs.{is_between, lowest_between, lowest_in};
 
-/// The lowest of what one peer scores another is at most each of it. It is one of them, and those before it are higher.
-/// There is none only where the one never scores the other.
+/// No opinion of one peer about another has a lower score than the lowest one (`least`). The lowest one is one of these
+/// opinions, and all before it are higher (`first`). There is none only where the one peer never scores the other (`none`).
 pub fn the_lowest_is_the_first_that_none_is_below()
     ensures least { (os : List OpinionValue) (p q : PeerNoValue) (x : LowestValue)
         → lowest_between os p q ≡ Some x

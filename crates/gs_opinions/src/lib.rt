@@ -1,5 +1,5 @@
-//! What peers score their neighbours over a run, in short: of each two peers the lowest score and its first moment, and of
-//! each round the lowest score, in all and of some groups.
+//! A summary of what peers score their neighbours over a run. For any two peers it has the lowest score and its first
+//! moment. For each round it has the lowest score of all peers and of some groups.
 #![tactic(auto)]
 
 mod cells;

@@ -1,4 +1,4 @@
-//! Who is of a group, by number.
+//! Which peers are in a group, by number.
 ghost use Rattle.std.specs.Prelude.{◌≡◌, IfOk};
 ghost use Rattle.gs_base.specs.declared.names.PeerNo.{PeerNo as PeerNoValue};
 ghost use Rattle.gs_plan.specs.Plans.{IsInRange};
@@ -11,7 +11,7 @@ use gs_plan::Plan;
 use gs_reach::Chosen;
 use std::alloc::{AllocError, Global};
 
-/// A group, and of each peer of a plan whether it is of it: a look-up takes the same time however large the group is.
+/// A group, and for each peer of a plan whether it is in the group. A look-up takes the same time for a group of any size.
 #[derive(Drop)]
 pub(crate) struct Members<'a> {
     group: &'a Chosen,
@@ -31,7 +31,7 @@ impl<'a> Members<'a> {
         Ok(Members { group, flags })
     }
 
-    /// Whether a peer is of the group.
+    /// Whether a peer is in the group.
     pub(crate) fn contains(&self, peer: PeerNo) -> bool
         ensures { result ≡ is_member self.now peer }
     {
@@ -42,7 +42,7 @@ impl<'a> Members<'a> {
     }
 }
 
-/// Whether each peer below a count is of a group.
+/// Whether each peer with a number below a count is in a group.
 fn flags_of(alloc: Global, count: u16, group: &Chosen) -> Result<Cells<bool>, AllocError>
     ensures { IfOk result (λ flags. flags ≡ member_flags group.now count) }
 {

@@ -22,7 +22,7 @@ use gs_reach::Chosen;
 use gs_report::{Finished, Report};
 use std::alloc::{AllocError, Global};
 
-/// The lowest that a peer scores a neighbour over a run.
+/// The lowest score that a peer gives a neighbour over a run.
 #[derive(Clone, Copy, Debug, PartialEq, Eq)]
 pub struct PairOpinion {
     /// Who gives the score.
@@ -39,26 +39,26 @@ pub struct RoundOpinions {
     pub round: u64,
     /// The lowest of all, if there is any.
     pub lowest: Option<i128>,
-    /// For each group the lowest that one of it is given, if there is any.
+    /// For each group, the lowest score that one of its members is given, if there is any.
     pub groups: Seq<Option<i128>>,
 }
 
-/// The lowest opinions of a run. Opinions are what peers score their neighbours at each heartbeat, decay and shutdown,
-/// after what they did then. A decay brings counters nearer to 0, so what they score just before it counts, too.
+/// The lowest opinions of a run. Opinions are what peers score their neighbours at each heartbeat, decay and shutdown, after
+/// what they did then. A decay brings counters nearer to 0, so the scores just before it count, too.
 #[derive(Debug, Drop, PartialEq, Eq)]
 pub struct Opinions {
-    /// A row for each two peers where the one has an opinion of the other: by the number of the one, and then by that of
-    /// the other.
+    /// A row for each peer and each neighbour that it has an opinion of. Rows ascend by the number of the peer, and then by
+    /// that of the neighbour.
     pub pairs: Seq<PairOpinion>,
-    /// A row for each round, the last one of the plan included. What lies after that is in none.
+    /// A row for each round, including the last one of the plan. Later opinions are in no row.
     pub rounds: Seq<RoundOpinions>,
 }
 
-/// The lowest opinions of some peers in a run of a plan, and the lowest of each of these groups. In each trace no entry may
-/// be earlier than the one before it.
+/// Returns the lowest opinions of the chosen peers in a run of a plan, and the lowest opinions about each of these groups.
+/// In each trace no entry may be earlier than the one before it.
 ///
 /// # Errors
-/// `AllocError` where there was no memory for them.
+/// `AllocError` if it runs out of memory.
 pub fn opinions_of(
     alloc: Global,
     plan: &Plan,

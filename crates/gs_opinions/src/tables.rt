@@ -19,14 +19,14 @@ use std::alloc::{AllocError, Global};
 /// The lowest opinions so far.
 #[derive(Drop)]
 pub(crate) struct Tables<'a> {
-    /// What each peer scores each other, both by number.
+    /// The lowest that each peer scores each other, both by number.
     pub pairs: Vec<Cells<Option<Lowest>>>,
     /// The lowest score of each round.
     pub rounds: Cells<Option<i128>>,
     pub groups: Vec<GroupRounds<'a>>,
 }
 
-/// Of each round the lowest score that anybody gives one of a group.
+/// For each round, the lowest score that anybody gives a member of a group.
 #[derive(Drop)]
 pub(crate) struct GroupRounds<'a> {
     pub members: Members<'a>,
@@ -34,7 +34,7 @@ pub(crate) struct GroupRounds<'a> {
 }
 
 impl<'a> Tables<'a> {
-    /// Of no opinion.
+    /// Tables that show no opinion.
     pub(crate) fn new(
         alloc: Global,
         plan: &Plan,
@@ -76,7 +76,7 @@ impl<'a> GroupRounds<'a> {
         Ok(GroupRounds { members, rounds })
     }
 
-    /// Notes an opinion, if it is of one of the group.
+    /// Notes an opinion, if it is about a member of the group.
     fn note(&mut self, round: usize, opinion: Opinion)
         ensures { self.new ≡ lowered_group round opinion self.old }
     {
@@ -121,7 +121,7 @@ fn lower_in_round(cells: &mut Cells<Option<i128>>, round: usize, opinion: Opinio
     }
 }
 
-/// Notes an opinion in the rounds of each group that it is of.
+/// Notes an opinion in the rounds of each group that has the scored peer as a member.
 fn lower_groups(groups: &mut [GroupRounds<'_>], round: usize, opinion: Opinion)
     ensures { groups.new ≡ map (lowered_group round opinion) groups.old }
 {
@@ -130,7 +130,7 @@ fn lower_groups(groups: &mut [GroupRounds<'_>], round: usize, opinion: Opinion)
     }
 }
 
-/// As many rows of as many cells with nothing.
+/// `count` rows of `count` empty cells.
 fn rows_of_none(alloc: Global, count: usize) -> Result<Vec<Cells<Option<Lowest>>>, AllocError>
     ensures { IfOk result (λ rows. rows.items ≡ empty_rows count) }
 {
@@ -141,7 +141,7 @@ fn rows_of_none(alloc: Global, count: usize) -> Result<Vec<Cells<Option<Lowest>>
     Ok(rows)
 }
 
-/// The rounds of each group, of no opinion.
+/// The rounds of each group, which show no opinion.
 fn all_rounds<'a>(
     alloc: Global,
     plan: &Plan,

@@ -87,7 +87,7 @@ pub(crate) fn note_peer(
     note_entries(&judge, tables, &mut follower, life.trace.entries())
 }
 
-/// Notes the opinions at these entries: all that are left of the peer's trace, of which its reader has seen none.
+/// Notes the opinions at these entries. They are the whole trace of the peer, and its reader has seen none of them.
 fn note_entries(
     judge: &Judge<'_>,
     tables: &mut Tables<'_>,
@@ -147,7 +147,7 @@ fn note_after(
     }
 }
 
-/// Notes what each neighbour scores at a moment.
+/// Notes the peer's opinion of each neighbour at a moment.
 fn note_moment(judge: &Judge<'_>, tables: &mut Tables<'_>, follower: &Follower<'_>, at: Millis)
     requires range { 0 < judge.now.plan.now.round_ms }
     requires neighbours { judge.now.neighbours.items ≡ neighbours_in judge.now.plan.now judge.now.peer }
@@ -162,7 +162,7 @@ fn note_moment(judge: &Judge<'_>, tables: &mut Tables<'_>, follower: &Follower<'
     }
 }
 
-/// What a neighbour scores at a moment.
+/// The peer's opinion of a neighbour at a moment.
 fn opinion_of(judge: &Judge<'_>, follower: &Follower<'_>, at: Millis, neighbour: PeerNo) -> Opinion
     ensures { (L : Entries) (left : List EntryValue)
         → FollowsPeer follower.now judge.now L left
@@ -176,7 +176,7 @@ fn opinion_of(judge: &Judge<'_>, follower: &Follower<'_>, at: Millis, neighbour:
     }
 }
 
-/// When scores are looked at. Each event is named, so that a new one is decided on.
+/// When scores are looked at. Each event is named, so that somebody decides about a new one.
 fn look_at(event: &Event) -> Look
     ensures { result ≡ look_at event.now }
 {

@@ -1,4 +1,4 @@
--- What is checked of parameters, in which order, and what is then the first fault.
+-- What is checked about parameters, in which order, and which fault comes first.
 use Rattle.std.specs.Prelude.{◌+◌, ◌*◌, ◌++◌, ◌&&◌, ℕ, nat_le, nat_lt, Bool, not, List, [], ◌∷◌, Option, Some, None, Result, Ok, Err, ℤ, pos, neg_ℤ, int_le, int_lt}
 use Rattle.std.specs.List.{find}
 use Rattle.gs_base.specs.declared.names.Topic.{Topic}
@@ -28,7 +28,7 @@ use Rattle.gs_params.specs.declared.param_fault.ParamFault.TheVariants as faults
 abbrev pub longest_time : ℕ
 longest_time = 1_000_000_000
 
--- the heaviest weight, in millionths: what counts against a neighbour weighs as much below 0
+-- the heaviest weight, in millionths: the weight of what counts against a neighbour is at least its negative
 abbrev pub heaviest : ℤ
 heaviest = pos 1_000_000_000
 
@@ -36,7 +36,7 @@ heaviest = pos 1_000_000_000
 abbrev pub highest_cap : ℕ
 highest_cap = 1_000_000_000_000
 
--- the highest degree of a mesh, and the most neighbours that a heartbeat turns to on a topic
+-- the highest degree of a mesh, and the highest `d_lazy` and `opportunistic_peers`
 abbrev pub highest_degree : ℕ
 highest_degree = 64
 
@@ -56,7 +56,7 @@ longest_memory = 64
 abbrev pub most_ticks : ℕ
 most_ticks = 1_000_000
 
--- the most offers of a neighbour that are looked at from heartbeat to heartbeat
+-- the most offers from a neighbour that count from heartbeat to heartbeat
 abbrev pub most_offers : ℕ
 most_offers = 1_000
 
@@ -95,7 +95,7 @@ holds (Score parameter value rule) = score_keeps value rule
 abbrev pub first_broken : List Check → Option Check
 first_broken = find (λ check. not (holds check))
 
--- a weight of what is good, of what is bad, a factor, a cap
+-- the rules of a reward's weight, a penalty's weight, a factor and a cap
 abbrev pub reward : ScoreRule
 reward = score.Range (pos 0) heaviest
 
@@ -108,7 +108,7 @@ fraction = count.Range 0 highest_factor
 abbrev pub cap : CountRule
 cap = count.Range 0 highest_cap
 
--- a time that is not empty, a backoff
+-- the rules of a time above 0 and of a backoff
 abbrev pub some_time : CountRule
 some_time = count.Range 1 longest_time
 
@@ -168,7 +168,7 @@ timing_checks x =
     ∷ Count of.GossipRetransmission x.gossip_retransmission (count.Range 1 most_retransmissions)
     ∷ []
 
--- of the topic at a place
+-- the checks of the topic at a place
 abbrev pub topic_factor_checks : ℕ → TopicFactors → List Check
 topic_factor_checks place x =
     Score (of.OfTopic place topic.TopicWeight) x.topic_weight reward
@@ -194,12 +194,12 @@ topic_timing_checks place x =
     ∷ Count (of.OfTopic place topic.P3ActivationMs) x.p3_activation_ms (count.AtMost longest_time)
     ∷ []
 
--- of each topic, where the first has this place
+-- the checks of each topic, where the first one has this place
 abbrev pub each_topic_from : (ℕ → TopicParams → List Check) → ℕ → List (Topic × TopicParams) → List Check
 each_topic_from checks place [] = []
 each_topic_from checks place (one ∷ topics) = checks place one.1 ++ each_topic_from checks (place + 1) topics
 
--- of a peer's own factors, and then of those of each of its topics
+-- the checks of a peer's own factors, and then of the factors of each of its topics
 abbrev pub all_factor_checks : Params → List Check
 all_factor_checks p = factor_checks p.factors ++ each_topic_from (λ place one. topic_factor_checks place one.factors) 0 p.topics
 
@@ -208,12 +208,12 @@ all_timing_checks p = timing_checks p.timing ++ each_topic_from (λ place one. t
 
 -- ---- which fault is first
 
--- the fault of the first check that fails, or what follows where all hold
+-- the fault of the first check that fails, or the given result if all hold
 abbrev pub unless_broken : (Check → ParamFault) → Option Check → Result Params ParamFault → Result Params ParamFault
 unless_broken fault (Some check) otherwise = Err (fault check)
 unless_broken fault None otherwise = otherwise
 
--- the parameters where all checks hold, or the first that fails, group by group
+-- the parameters if all checks hold, or the fault of the first that fails, group by group
 abbrev pub checked : Params → Result Params ParamFault
 checked p =
     unless_broken faults.Degrees (first_broken (degree_checks p.degrees))

@@ -15,7 +15,7 @@ pub use Rattle.gs_params.specs.Checks.{longest_memory, longest_time, most_at_an_
 use Rattle.gs_base.specs.Rpcs.{longest_backoff, most_identifiers}
 pub use Rattle.gs_params.specs.Checks.{most_offers, most_retransmissions, most_ticks, number_of}
 
--- ---- where nothing else is said
+-- ---- the defaults
 
 -- in neighbours
 abbrev pub default_degrees : Degrees
@@ -62,7 +62,7 @@ default_timing = record {
   gossip_retransmission = 3;
 }
 
--- an own message goes to all that are on its topic
+-- the peer's own message goes to all neighbours on its topic
 abbrev pub default_flood_publish : Bool
 default_flood_publish = true
 
@@ -107,7 +107,7 @@ default_topic_params = record {
   ignore = [];
 }
 
--- ---- what parameters that were checked are known to be
+-- ---- what is known about checked parameters
 
 abbrev pub IsReward : ℤ → Type 0
 IsReward z = (pos 0 ≤ℤ z) × (z ≤ℤ heaviest)

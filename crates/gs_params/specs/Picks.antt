@@ -7,7 +7,7 @@ use Rattle.gs_base.specs.Names.{same_peer}
 
 -- ---- choices
 
--- each peer's number is below those of all later ones, so none stands there twice
+-- each peer's number is below those of all later ones, so none is listed twice
 abbrev pub IsAscending : List PeerNo → Type 0
 IsAscending peers = AllPairs (λ p q. p.0 < q.0) peers
 
@@ -33,15 +33,15 @@ module _ {S : Type 0} (word : S → ℕ) (after : S → S) where
 
 -- ---- picks
 
--- Place i is exchanged with itself or with one after it, as the first word's remainder says; then place i + 1 by the
+-- Place i is exchanged with itself or with one after it, as the first word's remainder says. Then comes place i + 1 by the
 -- next word, and so on. (The shuffle of Fisher and Yates, in place, from the front.)
 unfoldable pub shuffled : {A : Type 0} → ℕ → List ℕ → List A → List A
 shuffled i [] xs = xs
 shuffled i (w ∷ ws) xs = shuffled (i + 1) ws (swap xs i (i + w % (length xs - i)))
 
 module _ {S : Type 0} (word : S → ℕ) (after : S → S) where
-  -- All candidates where they are at most k. Else those in the first k places of their shuffle by the next k words,
-  -- ascending: the candidates are ascending, and the filter leaves them in their order.
+  -- All candidates, if there are at most k. Else those in the first k places of their shuffle by the next k words,
+  -- ascending. The candidates are ascending, and the filter leaves them in their order.
   unfoldable pub picked : ℕ → List PeerNo → S → List PeerNo
   picked k candidates s =
       if nat_le (length candidates) k then candidates

@@ -14,7 +14,7 @@ generator_word g = (pcg32 g).0
 abbrev pub generator_after : Lcg → Lcg
 generator_after g = (pcg32 g).1
 
--- What they were made of, and how far they are.
+-- What seeded words were made from, and how many were drawn.
 pub record SeededState : Type 0 where
   -- the whole list
   pub list : List ℕ
@@ -24,7 +24,7 @@ pub record SeededState : Type 0 where
   pub peer : PeerNo
   pub generator : Lcg
 
--- words before any was given
+-- seeded words before any was drawn
 abbrev pub new_seeded : List ℕ → ℕ → PeerNo → SeededState
 new_seeded list seed peer =
     record { list = list; given = 0; seed = seed; peer = peer; generator = generator_of seed peer }

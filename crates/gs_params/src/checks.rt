@@ -3,37 +3,37 @@ ghost use Rattle.gs_params.specs.Checks.{count_keeps, first_broken, holds, score
 
 use crate::parameter::Parameter;
 
-/// A rule of what is counted: of neighbours, times, messages, and factors that are never below 0.
+/// A rule for values that are never below 0: numbers of neighbours or messages, times and factors.
 #[derive(Clone, Copy, Debug, PartialEq, Eq)]
 pub enum CountRule {
     /// At least this number.
     AtLeast(u64),
     /// At most this number.
     AtMost(u64),
-    /// From the first to the second.
+    /// From the first number to the second, with both.
     Range(u64, u64),
     /// At most another parameter, which has this value.
     NotAbove(Parameter, u64),
     /// Less than another parameter, which has this value.
     BelowThat(Parameter, u64),
-    /// Twice as many are at most another parameter, which has this value.
+    /// Twice the value is at most another parameter, which has this value.
     TwiceNotAbove(Parameter, u64),
-    /// Together with a second parameter, which has this value, at most a third, which has that one.
+    /// The sum with a second parameter is at most a third one. Each of the two is followed by its value.
     SumNotAbove(Parameter, u64, Parameter, u64),
 }
 
-/// A rule of whole millionths.
+/// A rule for values in whole millionths.
 #[derive(Clone, Copy, Debug, PartialEq, Eq)]
 pub enum ScoreRule {
     /// Less than this.
     Below(i64),
-    /// From the first to the second.
+    /// From the first number to the second, with both.
     Range(i64, i64),
     /// At most another parameter, which has this value.
     NotAbove(Parameter, i64),
 }
 
-/// A parameter, the value that it has, and a rule that it must keep.
+/// A parameter, its value, and a rule that the value must keep.
 #[derive(Clone, Copy, Debug, PartialEq, Eq)]
 pub enum Check {
     /// A value that is counted, and never below 0.
@@ -83,7 +83,7 @@ impl Check {
     }
 }
 
-/// The first check that fails.
+/// Returns the first check that fails, if any.
 pub fn first_broken(checks: &[Check]) -> Option<Check>
     ensures { result ≡ first_broken checks.now }
 {

@@ -9,7 +9,7 @@ pub enum ParamFault {
     /// The degrees don't fit together.
     #[error("the degrees don't fit together")]
     Degrees(Check),
-    /// A threshold is out of its range or their order.
+    /// A threshold is out of its range, or thresholds are out of order.
     #[error("a threshold is out of range")]
     Thresholds(Check),
     /// A factor, a weight or a cap is out of its range.
@@ -21,7 +21,7 @@ pub enum ParamFault {
 }
 
 impl ParamFault {
-    /// The number of the refusal, as docs/FORMATS.md lists it: 1 to 4.
+    /// Returns the number of the refusal, as docs/FORMATS.md lists it: 1 to 4.
     pub fn number(self) -> u8
         ensures { result ≡ number_of self }
     {

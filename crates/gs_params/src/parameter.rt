@@ -67,7 +67,7 @@ pub enum Parameter {
     MaxIhaveIds,
     /// `gossip_retransmission`
     GossipRetransmission,
-    /// A parameter of the topic at this place in the list of topics, from 0 on.
+    /// A parameter of the topic at this place in the list of topics, counted from 0.
     OfTopic(usize, TopicParameter),
 }
 

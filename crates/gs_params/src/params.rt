@@ -29,19 +29,19 @@ use std::alloc::{AllocError, Global};
 pub struct Degrees {
     /// How many members a mesh should have.
     pub d: u64,
-    /// With fewer members than this a mesh is filled: 1 to `d`.
+    /// A mesh with fewer members than this is filled: 1 to `d`.
     pub d_low: u64,
-    /// With more members than this a mesh is cut: `d` to 64.
+    /// A mesh with more members than this is cut: `d` to 64.
     pub d_high: u64,
-    /// How many of the best members by score are kept where a mesh is cut: together with `d_out` at most `d`.
+    /// How many of the best members by score are kept when a mesh is cut: together with `d_out` at most `d`.
     pub d_score: u64,
     /// How many outbound members a mesh should have: fewer than `d_low`, and at most half of `d`.
     pub d_out: u64,
-    /// How many neighbours get gossip at least, where there are this many: at most 64.
+    /// How many neighbours get gossip at least, if there are as many: at most 64.
     pub d_lazy: u64,
 }
 
-/// The degrees where nothing else is said.
+/// The default degrees.
 pub const DEFAULT_DEGREES: Degrees = Degrees {
     d: 6,
     d_low: 4,
@@ -54,17 +54,17 @@ pub const DEFAULT_DEGREES: Degrees = Degrees {
 /// The scores that neighbours need, in millionths.
 #[derive(Clone, Copy, Debug, PartialEq, Eq)]
 pub struct Thresholds {
-    /// With a lower score than this a neighbour gets and gives no gossip: below 0.
+    /// A neighbour with a lower score than this gets and gives no gossip: below 0.
     pub gossip_threshold: i64,
-    /// With a lower score than this a neighbour that isn't explicit is not published to: at most `gossip_threshold`.
+    /// A neighbour with a lower score than this is not published to, unless it is explicit: at most `gossip_threshold`.
     pub publish_threshold: i64,
-    /// With a lower score than this a neighbour that isn't explicit is not listened to: at most `publish_threshold`.
+    /// A neighbour with a lower score than this is not listened to, unless it is explicit: at most `publish_threshold`.
     pub graylist_threshold: i64,
-    /// With a lower median score than this a mesh gets better members: 0 to 10^12.
+    /// A mesh with a lower median score than this gets better members: 0 to 10^12.
     pub opportunistic_threshold: u64,
 }
 
-/// The thresholds where nothing else is said.
+/// The default thresholds.
 pub const DEFAULT_THRESHOLDS: Thresholds = Thresholds {
     gossip_threshold: -10_000_000,
     publish_threshold: -50_000_000,
@@ -93,7 +93,7 @@ pub struct Factors {
     pub p6_threshold: u64,
 }
 
-/// The factors where nothing else is said.
+/// The default factors.
 pub const DEFAULT_FACTORS: Factors = Factors {
     gossip_factor: 250_000,
     p7_decay: 900_000,
@@ -105,7 +105,7 @@ pub const DEFAULT_FACTORS: Factors = Factors {
     p6_threshold: 1,
 };
 
-/// Times, and how much of something there is in a time.
+/// Times and budgets.
 #[derive(Clone, Copy, Debug, PartialEq, Eq)]
 pub struct Timing {
     /// The time from heartbeat to heartbeat, in milliseconds: 1 to 10^9.
@@ -118,9 +118,9 @@ pub struct Timing {
     pub seen_ttl_ms: u64,
     /// How long a neighbour may take to send what it announced, in milliseconds: 1 to 10^9.
     pub iwant_followup_ms: u64,
-    /// For how long one that was pruned stays away, in seconds: 1 to 86,400.
+    /// For how long a pruned neighbour stays away, in seconds: 1 to 86,400.
     pub prune_backoff_s: u64,
-    /// For how long one that left a topic stays away, in seconds: 1 to 86,400.
+    /// For how long a peer that left a topic stays away, in seconds: 1 to 86,400.
     pub unsubscribe_backoff_s: u64,
     /// For how many heartbeats a message is kept: 1 to 64.
     pub mcache_len: u64,
@@ -130,15 +130,15 @@ pub struct Timing {
     pub opportunistic_ticks: u64,
     /// How many better members it gets at most: 0 to 64.
     pub opportunistic_peers: u64,
-    /// How many announcements of a neighbour count from heartbeat to heartbeat: 1 to 1,000.
+    /// How many announcements from a neighbour count from heartbeat to heartbeat: 1 to 1,000.
     pub max_ihave: u64,
-    /// How many identifiers are asked of a neighbour from heartbeat to heartbeat: 1 to 5,000.
+    /// How many identifiers a neighbour is asked for from heartbeat to heartbeat: 1 to 5,000.
     pub max_ihave_ids: u64,
     /// How often a message is sent to a neighbour that asks for it: 1 to 1,000.
     pub gossip_retransmission: u64,
 }
 
-/// The times and budgets where nothing else is said.
+/// The default times and budgets.
 pub const DEFAULT_TIMING: Timing = Timing {
     heartbeat_ms: 1_000,
     decay_ms: 1_000,
@@ -156,7 +156,7 @@ pub const DEFAULT_TIMING: Timing = Timing {
     gossip_retransmission: 3,
 };
 
-/// Whether an own message goes to all that are on its topic, where nothing else is said.
+/// The default of `flood_publish`.
 pub const DEFAULT_FLOOD_PUBLISH: bool = true;
 
 /// The parameters of a gossipsub peer.
@@ -166,14 +166,14 @@ pub struct Params {
     pub thresholds: Thresholds,
     pub factors: Factors,
     pub timing: Timing,
-    /// Whether an own message goes to all that are on its topic, and not only to its mesh.
+    /// Whether the peer's own message goes to all neighbours on its topic, and not only to its mesh.
     pub flood_publish: bool,
-    /// The parameters of topics. The first of a topic counts, and a topic without any has the defaults.
+    /// The parameters of topics. The first ones of a topic count, and a topic without any has the defaults.
     pub topics: Seq<(Topic, TopicParams)>,
 }
 
 impl Degrees {
-    /// What is checked: whether they fit together.
+    /// Returns the checks of whether the degrees fit together.
     pub fn checks(&self) -> [Check; 8]
         ensures { result ≡ degree_checks self.now }
     {
@@ -195,7 +195,7 @@ impl Degrees {
 }
 
 impl Thresholds {
-    /// What is checked: whether they are in their ranges and their order.
+    /// Returns the checks of whether the thresholds are in their ranges and in order.
     pub fn checks(&self) -> [Check; 4]
         ensures { result ≡ threshold_checks self.now }
     {
@@ -220,7 +220,7 @@ impl Thresholds {
 }
 
 impl Factors {
-    /// What is checked: whether each is in its range.
+    /// Returns the checks of whether each value is in its range.
     pub fn checks(&self) -> [Check; 8]
         ensures { result ≡ factor_checks self.now }
     {
@@ -242,7 +242,7 @@ impl Factors {
 }
 
 impl Timing {
-    /// What is checked: whether each is in its range.
+    /// Returns the checks of whether each value is in its range.
     pub fn checks(&self) -> [Check; 15]
         ensures { result ≡ timing_checks self.now }
     {
@@ -307,7 +307,7 @@ impl ExactClone for Params {
 }
 
 impl Params {
-    /// The parameters where nothing is said. They take no memory.
+    /// Returns the default parameters. They take no memory.
     pub fn new(alloc: Global) -> Params
         ensures { result ≡ default_params }
     {
@@ -321,11 +321,11 @@ impl Params {
         }
     }
 
-    /// The parameters, which are then known to be in their ranges.
+    /// Returns the parameters if all of them are in their ranges.
     ///
     /// # Errors
-    /// The first check that fails. First come `Degrees`, then `Thresholds`, `Factor` and `Timing`, each of these two
-    /// with those of topics last; within a group the checks have the order of the parameters' names in the structs.
+    /// The first check that fails. First come `Degrees`, then `Thresholds`, `Factor` and `Timing`. In each of the last two,
+    /// the checks of topics come last. Within a group, the checks have the order of the parameters' names in the structs.
     pub fn check(self) -> Result<Params, ParamFault>
         ensures checked { result ≡ checked self }
         ensures in_range { IfOk result AreInRange }
@@ -366,7 +366,7 @@ impl Params {
     }
 }
 
-/// Parameters that are in their ranges pass each check, and come back as they are.
+/// Parameters that are in their ranges pass each check, and come back unchanged.
 pub fn parameters_in_range_pass()
     ensures { (p : ParamsValue) → AreInRange p → checked p ≡ Ok p }
 {}

@@ -9,7 +9,7 @@ use crate::words::Words;
 use gs_base::PeerNo;
 use std::alloc::{AllocError, Global};
 
-/// Shuffles the first k places: each is exchanged with itself or with one after it.
+/// Shuffles the first k places: exchanges each with itself or with one after it.
 fn shuffle<W: Words>(places: &mut Vec<PeerNo>, k: usize, words: &mut W)
     requires { k < length places.old.items }
     ensures places { places.new.items ≡ shuffled 0 (next_words W.word W.after k words.old) places.old.items }
@@ -22,18 +22,18 @@ fn shuffle<W: Words>(places: &mut Vec<PeerNo>, k: usize, words: &mut W)
     }
 }
 
-/// Keeps the peers that are among these, in their order, so that no pick is sorted.
+/// Keeps the peers that are among these, in their order, so that no pick needs sorting.
 fn keep(peers: &mut Vec<PeerNo>, these: &[PeerNo])
     ensures { peers.new.items ≡ filter (is_member same_peer these.now) peers.old.items }
 {
     peers.retain(|peer| these.contains(peer));
 }
 
-/// Picks k of the candidates, which are ascending, and all of them where there are fewer. A word is
-/// drawn for each that is picked, and none where all are.
+/// Picks k of the ascending candidates, or all of them if there are at most k. It draws a word for each pick, and none if
+/// it picks all.
 ///
 /// # Errors
-/// `AllocError` where there was no memory; no word was drawn then.
+/// `AllocError` when out of memory; no word was drawn then.
 pub fn pick<W: Words>(
     alloc: Global,
     candidates: &[PeerNo],
@@ -57,8 +57,7 @@ pub fn pick<W: Words>(
     Ok(chosen)
 }
 
-/// Picks one of n places, numbered from 0, by a word. Where there is only one place, no word is
-/// drawn.
+/// Picks one of n places, numbered from 0, by a word. If there is only one place, it draws no word.
 #[tactic(auto, unfolding(crate::specs::Picks::picked_one, crate::specs::Picks::picked_one_words))]
 pub fn pick_one<W: Words>(n: usize, words: &mut W) -> usize
     requires { 0 < n }
@@ -72,8 +71,8 @@ pub fn pick_one<W: Words>(n: usize, words: &mut W) -> usize
     words.next_word() as usize % n
 }
 
-/// Who is picked: k of the candidates, or all where there are fewer, ascending and none twice. Where
-/// not all are, they are those in the first k places of the shuffle by the next k words.
+/// A pick has k of the candidates, or all if there are fewer, ascending and none twice. If there are more than k, the pick
+/// has those in the first k places of the shuffle by the next k words.
 pub fn a_pick_is_the_front_of_a_shuffle<W: Words>()
     ensures sample { (k : ℕ) (candidates : List PeerNoValue) (words : W)
         → IsAscending candidates

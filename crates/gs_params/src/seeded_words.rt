@@ -35,7 +35,7 @@ impl Model for SeededWords {
 }
 
 impl SeededWords {
-    /// Words with this list, and after it the words of the PCG32 generator that begins at the
+    /// Returns a source that gives the words of this list, and then those of a PCG32 generator. The generator begins at the
     /// seed, in the stream of the peer's number. It takes no memory.
     pub fn new(list: Vec<u32>, seed: u64, peer: PeerNo) -> SeededWords
         ensures { result ≡ new_seeded list.items seed peer }
@@ -65,7 +65,7 @@ impl Words for SeededWords {
     }
 }
 
-/// What seeded words give: their list in order, and then the words of their generator.
+/// Seeded words are their list in order, and then the words of their generator.
 pub fn seeded_words_give_their_list_first()
     ensures { (list : List ℕ) (seed : ℕ) (peer : PeerNoValue) (n : ℕ)
         → next_words seeded_word seeded_after (length list + n) (new_seeded list seed peer) ≡

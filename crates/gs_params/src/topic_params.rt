@@ -44,11 +44,11 @@ pub struct TopicFactors {
     pub p2_cap: u64,
     /// The most that the counter of deliveries in the mesh holds: 0 to 10^12.
     pub p3_cap: u64,
-    /// With less than this in the counter of deliveries in the mesh some are missing: 0 to 10^12.
+    /// If the counter of deliveries in the mesh is below this, some are missing: 0 to 10^12.
     pub p3_threshold: u64,
 }
 
-/// The factors of a topic where nothing else is said.
+/// The default factors of a topic.
 pub const DEFAULT_TOPIC_FACTORS: TopicFactors = TopicFactors {
     topic_weight: 1_000_000,
     w1: 0,
@@ -71,20 +71,20 @@ pub const DEFAULT_TOPIC_FACTORS: TopicFactors = TopicFactors {
 pub struct TopicTiming {
     /// The time in the mesh that counts as one (P1): 1 to 10^9.
     pub p1_quantum_ms: u64,
-    /// For how long after the first delivery another counts (P3): 0 to 10^9.
+    /// For how long after the first delivery another delivery counts (P3): 0 to 10^9.
     pub p3_window_ms: u64,
-    /// For how long nothing is missing of a new member of the mesh (P3): 0 to 10^9.
+    /// For how long a new member of the mesh has no missing deliveries (P3): 0 to 10^9.
     pub p3_activation_ms: u64,
 }
 
-/// The times of a topic where nothing else is said.
+/// The default times of a topic.
 pub const DEFAULT_TOPIC_TIMING: TopicTiming = TopicTiming {
     p1_quantum_ms: 1_000,
     p3_window_ms: 10,
     p3_activation_ms: 5_000,
 };
 
-/// The parameters of a topic: how it is scored, and what is found of its messages.
+/// The parameters of a topic: how it is scored, and which payloads are rejected or ignored.
 #[derive(Debug, Drop, PartialEq, Eq)]
 pub struct TopicParams {
     pub factors: TopicFactors,
@@ -113,7 +113,7 @@ impl ExactClone for TopicParams {
 }
 
 impl TopicParams {
-    /// The parameters of a topic where nothing is said. They take no memory.
+    /// Returns the default parameters of a topic. They take no memory.
     pub fn new(alloc: Global) -> TopicParams
         ensures { result ≡ default_topic_params }
     {
@@ -127,7 +127,7 @@ impl TopicParams {
 }
 
 impl TopicFactors {
-    /// What is checked of the topic at this place: whether each is in its range.
+    /// Returns the checks of the topic at this place: whether each value is in its range.
     pub fn checks(&self, place: usize) -> [Check; 14]
         ensures { result ≡ topic_factor_checks place self.now }
     {
@@ -163,7 +163,7 @@ impl TopicFactors {
 }
 
 impl TopicTiming {
-    /// What is checked of the topic at this place: whether each is in its range.
+    /// Returns the checks of the topic at this place: whether each value is in its range.
     pub fn checks(&self, place: usize) -> [Check; 3]
         ensures { result ≡ topic_timing_checks place self.now }
     {

@@ -1,8 +1,8 @@
-//! Random words, which are handed in.
+//! Random words, which the caller passes in.
 ghost use Rattle.std.specs.Prelude.{◌≡◌, ℕ};
 
-/// A source of random words. What it gives is a function of its state only, so that a run can be
-/// repeated: each state has a next word, and a state after it.
+/// A source of random words. What it gives depends only on its state, so that a run can be repeated. Each state has a next
+/// word, and a state after it.
 pub trait Words {
     // The next word of a state.
     ghost word: { Self → ℕ };

@@ -1,4 +1,4 @@
--- What a task keeps of what comes from a neighbour, and how that changes.
+-- What a task keeps about what comes from a neighbour, and how that changes.
 use Rattle.std.specs.Prelude.{◌≡◌, ◌⊎◌, ℕ, zero, suc, Bool, true, false, not, ◌&&◌, ◌||◌, nat_eq, if◌then◌else◌, List, [], ◌∷◌, ◌++◌, length, map, Some, is_none, unwrap_or}
 use Rattle.std.specs.List.{flat_map}
 use Rattle.gs_base.specs.declared.names.PeerNo.{PeerNo}
@@ -14,12 +14,12 @@ pub record InboxView : Type 0 where
   pub reader : Holding
   -- the RPCs that were taken and not handled
   pub stage : List Rpc
-  -- all is taken that is heard in this phase: the end of a round was
+  -- all is taken that is heard in this phase, up to the end of a round
   pub is_marked : Bool
   -- the close was taken
   pub is_closed : Bool
 
--- one for which nothing was taken: in the first round there is nothing to hear
+-- an inbox for which nothing was taken; it is marked, since in the first round there is nothing to hear
 abbrev pub new_inbox : PeerNo → InboxView
 new_inbox q = record {
   peer = q;
@@ -39,11 +39,11 @@ is_broken_off x = is_none x.reader.held || (x.is_closed && not (nat_eq (length (
 abbrev pub ending_of : InboxView → List Todo
 ending_of x = if is_broken_off x then HearFault x.peer ∷ [] else if x.is_closed then HearGone x.peer ∷ [] else []
 
--- what there is to hear of it
+-- what there is to hear from it
 abbrev pub heard_of : InboxView → List Todo
 heard_of x = map (Hear x.peer) x.stage ++ ending_of x
 
--- what there is to hear of each, one neighbour after the other
+-- what there is to hear from each, one neighbour after the other
 abbrev pub all_heard : List InboxView → List Todo
 all_heard inboxes = flat_map heard_of inboxes
 
@@ -57,13 +57,13 @@ is_full x = x.is_marked || x.is_closed
 
 -- ---- what is taken
 
--- this mark ends what is heard in a phase: that of the round before
+-- the end of this round ends what is heard in a phase: in a round, that is the end of the round before
 abbrev pub is_mark : Phase → ℕ → Bool
 is_mark (Playing zero) k = false
 is_mark (Playing (suc r)) k = nat_eq k r
 is_mark Closing k = false
 
--- a piece is read: the RPCs that are whole then are staged
+-- a piece is read, and the RPCs that are complete with it are staged
 abbrev pub FeedsPiece : InboxView → List ℕ → InboxView → Type 0
 FeedsPiece old bytes new =
     (reader : Holding) × (found : List Rpc)
@@ -83,6 +83,6 @@ Listens phase before after old new =
 
 -- ---- a phase is over
 
--- what was staged is handled, and nothing is taken yet of what is heard in the next phase
+-- what was staged is handled, and nothing that is heard in the next phase is taken yet
 abbrev pub in_next_phase : InboxView → InboxView
 in_next_phase x = record x { stage = []; is_marked = false }

@@ -32,17 +32,17 @@ abbrev pub is_whole : Phase → Said → Bool
 is_whole (Playing r) w = whole r w
 is_whole Closing w = closes w
 
--- in a round nothing but a close is taken after what is heard in it
+-- in a round, only a close may be taken after what is heard in it
 abbrev pub NothingAfter : Phase → Said → Bool → Type 0
 NothingAfter (Playing r) w closed = after r w ≡ close_if closed
 NothingAfter Closing w closed = Unit {0}
 
--- in a round what is heard ends with a close, where one is taken
+-- in a round, what is heard ends with a close if a close is taken
 abbrev pub ClosesHere : Phase → Said → Bool → Type 0
 ClosesHere (Playing r) w closed = closes_in r w ≡ closed
 ClosesHere Closing w closed = Unit {0}
 
--- An inbox in a phase, where this trace has come of the peer and this is taken from the neighbour.
+-- An inbox in a phase, where the peer has the trace `L` and `said` was taken from the neighbour.
 pub record InboxKept (seat : Seat) (phase : Phase) (L : Entries) (said : Said) (x : InboxView) : Type 0 where
   -- the rounds that were heard have ended
   pub stable : whole (rounds_ended seat phase) said ≡ true
@@ -50,13 +50,13 @@ pub record InboxKept (seat : Seat) (phase : Phase) (L : Entries) (said : Said) (
   pub closed : closes said ≡ x.is_closed
   pub rest : NothingAfter phase said x.is_closed
   pub here : ClosesHere phase said x.is_closed
-  -- what was handled is what was said in them, and with what is staged it is all that was taken
+  -- what was handled is what was said in those rounds; together with what is staged it is all that was taken
   pub earlier : Spell (bytes_before (rounds_ended seat phase) said) (handled L x.peer)
   pub read : HasRead longest_body (bytes_of said) x.reader (handled L x.peer ++ x.stage)
 
 -- ---- what goes to one neighbour
 
--- What was accepted and what waits is what the trace says, what is gathered is what the trace has gathered, and more may be
+-- What was accepted and then what waits is what the trace says. What is gathered is what the trace has gathered. More may be
 -- said while the neighbour is up.
 pub record BoxKept (L : Entries) (sent : Said) (boxes : Outboxes) (q : PeerNo) : Type 0 where
   pub is_open : is_open boxes q ≡ up L q
@@ -65,7 +65,7 @@ pub record BoxKept (L : Entries) (sent : Said) (boxes : Outboxes) (q : PeerNo) :
 
 -- ---- all of it
 
--- so far the rounds before a phase were played, and after the last one the peer has shut down
+-- the rounds before a phase were played; in the phase after the last round the peer has shut down
 abbrev pub Begun : Seat → (PeerNo → Said) → Phase → Entries → List RefusedLine → Type 0
 Begun seat said (Playing r) L refused = (r ≤ seat.rounds) × AfterRounds seat said r L refused
 Begun seat said Closing L refused =
@@ -73,7 +73,7 @@ Begun seat said Closing L refused =
     × AfterRounds seat said (suc seat.rounds) K refused
     × Comes seat.peer (moment_of seat Closing) (Some Shut) K L
 
--- What a task keeps in a phase, where this is taken from its neighbours and this is accepted for them.
+-- What a task keeps in a phase, where `said` was taken from its neighbours and `sent` was accepted for them.
 pub record Kept (seat : Seat) (said sent : PeerNo → Said) (phase : Phase) (inboxes : List InboxView)
     (boxes : Outboxes) (v : RouterView) (refused : List RefusedLine) (first words : SeededState) : Type 0 where
   pub peer : v.peer ≡ seat.peer

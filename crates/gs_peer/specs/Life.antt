@@ -1,4 +1,4 @@
--- What is known of a life that has ended.
+-- What is known about a peer's run that has ended.
 use Rattle.std.specs.Prelude.{◌≡◌, ◌*◌, true, List, [], None}
 use Rattle.std.specs.List.{AllByRecursion}
 use Rattle.gs_base.specs.declared.names.PeerNo.{PeerNo}
@@ -21,10 +21,10 @@ use Rattle.gs_peer.specs.declared.finished_task.FinishedTask.{FinishedTask}
 abbrev pub words_of : (PeerNo → List Slot) → PeerNo → Said
 words_of lists q = flat (lists q)
 
--- A whole life at a seat, by choices that begin with these words.
+-- A whole run of the peer that is given `seat`. Its choices begin with the random words `first`.
 pub record IsLife {S : Type 0} (seen : EndsOf S) (seat : Seat) (first : SeededState)
     (f : FinishedTask S) : Type 0 where
-  -- each entry is allowed by those before it, by the choices of the words
+  -- each entry is allowed after those before it, with the choices that the words make
   pub legal : (last : SeededState) × LegalOn (exact seeded_word seeded_after) seat.peer first [] f.trace last
   -- it did what there was to do, round by round, and exactly this was refused
   pub keeps : KeepsRounds seat (words_of (seen.taken f.ends)) f.trace f.refused
@@ -32,12 +32,12 @@ pub record IsLife {S : Type 0} (seen : EndsOf S) (seat : Seat) (first : SeededSt
   pub meshes : f.meshes ≡ meshes_of f.trace
   -- its neighbours scored this when it shut down, and nothing after that changes it
   pub scores : f.scores ≡ scores_of seat.peer f.trace (seat.rounds * seat.round_ms)
-  -- of each neighbour, all RPCs were handled that the bytes spell that were taken
+  -- from each neighbour, all RPCs were handled that the taken bytes spell
   pub handles : AllByRecursion (λ q. Spell (bytes_of (words_of (seen.taken f.ends) q)) (handled f.trace q))
       (links_of seat.peer)
-  -- to each neighbour, all that the trace says was accepted
+  -- for each neighbour, all that the trace says was accepted
   pub says : AllByRecursion (λ q. words_of (seen.accepted f.ends) q ≡ out codec f.trace q) (links_of seat.peer)
   -- nothing is gathered that did not go out
   pub none_gathered : AllByRecursion (λ q. gathered codec f.trace q ≡ None) (links_of seat.peer)
-  -- each neighbour has closed, so that nothing of what it said is left in its link
+  -- each neighbour has closed, so nothing that it said is left in its link
   pub closed : AllByRecursion (λ q. closes (words_of (seen.taken f.ends) q) ≡ true) (links_of seat.peer)

@@ -1,4 +1,4 @@
--- Who has something to move, and whose turn comes then.
+-- Which neighbours have something to move, and whose turn is next.
 use Rattle.std.specs.Prelude.{ℕ, suc, Bool, true, false, not, ◌&&◌, ◌||◌, ◌==◌, ◌+◌, nat_lt, if◌then◌else◌, List, length, Option, slice_get, option_map, unwrap_or}
 use Rattle.std.specs.List.{list_all}
 use Rattle.gs_base.specs.declared.names.PeerNo.{PeerNo}
@@ -11,11 +11,11 @@ use Rattle.gs_peer.specs.Outboxes.{waiting}
 
 -- ---- who has something to move
 
--- all is taken of each neighbour that is heard in this phase
+-- all is taken that is heard from each neighbour in this phase
 abbrev pub are_full : List InboxView → Bool
 are_full inboxes = list_all is_full inboxes
 
--- all is taken that is heard of the neighbour at this place, or none is there
+-- all is taken that is heard from the neighbour at this place in this phase, or no neighbour is there
 abbrev pub is_full_at : List InboxView → ℕ → Bool
 is_full_at inboxes k = unwrap_or (option_map is_full (slice_get inboxes k)) true
 
@@ -27,11 +27,11 @@ is_silent out q = length (waiting out q) == 0
 abbrev pub are_silent : Outboxes → List InboxView → Bool
 are_silent out inboxes = list_all (λ (x : InboxView). is_silent out x.peer) inboxes
 
--- more is to be taken of this neighbour, or waits for it
+-- more is to be taken from this neighbour, or something waits for it
 abbrev pub has_more : Outboxes → InboxView → Bool
 has_more out x = not (is_full x) || not (is_silent out x.peer)
 
--- and of the neighbour at this place, where there is one
+-- the same for the neighbour at this place, if there is one
 abbrev pub has_more_at : {G S : Type 0} → Running G S → ℕ → Bool
 has_more_at t place = unwrap_or (option_map (has_more t.outboxes) (slice_get t.player.inboxes.items place)) false
 
@@ -63,6 +63,6 @@ peer_at inboxes place = option_map (λ (x : InboxView). x.peer) (slice_get inbox
 abbrev pub whose_turn : {G S : Type 0} → Running G S → Option PeerNo
 whose_turn t = peer_at t.player.inboxes.items t.turn
 
--- whose turn is next, of this many neighbours: after the last one a step looks at none, and then they come round
+-- whose turn is next among this many neighbours: after the last one a step looks at none, and then the first is next again
 abbrev pub turn_after : ℕ → ℕ → Bool → ℕ
 turn_after turn neighbours stays = if stays then turn else if nat_lt turn neighbours then suc turn else 0

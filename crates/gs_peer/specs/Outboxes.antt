@@ -18,7 +18,7 @@ use Rattle.gs_peer.specs.declared.outboxes.Outboxes.{Outboxes}
 abbrev pub box_of : Outboxes → PeerNo → Option Outbox
 box_of out q = lookup (same_peer q) out.boxes.entries
 
--- the place of a peer's outbox in the order of the neighbours, and their number where it has none
+-- the place of a peer's outbox in the order of the neighbours, or the number of neighbours where it has none
 abbrev pub place_in : List (PeerNo × Outbox) → PeerNo → ℕ
 place_in [] q = 0
 place_in (x ∷ xs) q = if same_peer q x.0 then 0 else suc (place_in xs q)
@@ -26,7 +26,7 @@ place_in (x ∷ xs) q = if same_peer q x.0 then 0 else suc (place_in xs q)
 abbrev pub place_of : Outboxes → PeerNo → ℕ
 place_of out q = place_in out.boxes.entries q
 
--- what waits for a peer, and nothing where it has no outbox
+-- what waits for a peer, or nothing where it has no outbox
 abbrev pub waiting : Outboxes → PeerNo → List Slot
 waiting out q = unwrap_or (option_map (λ (box : Outbox). box.slots) (box_of out q)) []
 
@@ -38,7 +38,7 @@ gathered_in out q = unwrap_or (option_map (λ (box : Outbox). box.gathered) (box
 abbrev pub outgoing_in : Outboxes → PeerNo → Outgoing
 outgoing_in out q = record { said = flat (waiting out q); gathered = gathered_in out q }
 
--- and what is in its outbox
+-- what is to go out from an outbox
 abbrev pub outgoing_of : Outbox → Outgoing
 outgoing_of box = record { said = flat box.slots; gathered = box.gathered }
 
@@ -50,12 +50,12 @@ is_open out q = unwrap_or (option_map (λ (box : Outbox). box.is_open) (box_of o
 abbrev pub is_neighbour : List PeerNo → PeerNo → Bool
 is_neighbour neighbours q = list_any (λ n. same_peer n q) neighbours
 
--- whether more may be said after these entries, the first one first
+-- whether more may be said to q after these entries, from the first to the last
 abbrev pub opens_after : PeerNo → Bool → List Entry → Bool
 opens_after q may [] = may
 opens_after q may (e ∷ es) = opens_after q (up_after q e.event may) es
 
--- what is to go to q after these entries, the first one first
+-- what is to go to q after these entries, from the first to the last
 abbrev pub after_entries : PeerNo → Bool → Outgoing → List Entry → Outgoing
 after_entries q may o [] = o
 after_entries q may o (e ∷ es) = after_entries q (up_after q e.event may) (if may then behind_entry codec q o e else o) es

@@ -1,4 +1,4 @@
--- Where a task is in its life, and how far its neighbours' rounds have come there.
+-- Where a task is in its run, and how many of its neighbours' rounds have ended there.
 use Rattle.std.specs.Prelude.{ℕ, pred}
 use Rattle.gs_rules.specs.Rounds.{Seat}
 use Rattle.gs_rules.specs.Rounds as rounds
@@ -10,7 +10,7 @@ abbrev pub phase_of : Phase → rounds.Phase
 phase_of (Playing r) = rounds.Playing r
 phase_of Closing = rounds.Closing
 
--- how many rounds of what a neighbour says have ended where a phase begins
+-- how many rounds have ended in what a neighbour said, where a phase begins
 abbrev pub rounds_ended : Seat → rounds.Phase → ℕ
 rounds_ended seat (rounds.Playing r) = pred r
 rounds_ended seat rounds.Closing = seat.rounds

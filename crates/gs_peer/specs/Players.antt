@@ -9,8 +9,8 @@ use Rattle.gs_peer.specs.declared.player.Player.{Player}
 use Rattle.gs_peer.specs.Inboxes.{all_heard, in_next_phase}
 use Rattle.gs_player.specs.Playing.{Runs, behind_heard}
 
--- What came was heard, these lines were followed where they are for the round, counters were lowered and a heartbeat
--- came where that was due, and the round was ended; these lines were refused.
+-- What came was heard, those of the lines that are for the round were followed, and the round was ended. Before its end
+-- counters were lowered and a heartbeat came, each where it was due. The lines `more` were refused.
 pub record PlaysRound (r : ℕ) (now : Millis) (lines : List (ℕ × Line)) (old new : Player) : Type 0 where
   pub more : List RefusedLine
   pub refused : new.refused.items ≡ old.refused.items ++ more

@@ -1,4 +1,4 @@
--- What a running task keeps, and how a step of it ends.
+-- What a running task keeps, and what holds after a step of it.
 use Rattle.std.specs.Prelude.{◌≡◌, ◌<◌, ◌*◌, ◌^◌, ◌++◌, ℕ, true, false, List, [], length}
 use Rattle.std.specs.List.{AllByRecursion}
 use Rattle.gs_base.specs.declared.names.PeerNo.{PeerNo}
@@ -24,7 +24,7 @@ use Rattle.gs_peer.specs.Life.{words_of}
 use Rattle.gs_peer.specs.Outboxes.{waiting}
 use Rattle.gs_peer.specs.Phases.{phase_of}
 
--- the seat of a peer that is given this
+-- what a run gives the peer `p` that has this assignment
 abbrev pub seat_with : Assignment → Peer → Seat
 seat_with a p = record { number = a.number; peer = p; lines = a.lines; round_ms = a.round_ms; rounds = a.rounds }
 
@@ -39,7 +39,7 @@ AllFull inboxes = AllByRecursion (λ (x : InboxView). is_full x ≡ true) inboxe
 abbrev pub AllSilent : Outboxes → List InboxView → Type 0
 AllSilent boxes inboxes = AllByRecursion (λ (x : InboxView). waiting boxes x.peer ≡ []) inboxes
 
--- The neighbours are sent what the trace says after its first `told` entries.
+-- What the trace says after its first `told` entries is queued for the neighbours.
 abbrev pub TellsSince : ℕ → Entries → Outboxes → Outboxes → Type 0
 TellsSince told L old new =
     (K : Entries) (sent : PeerNo → Said) (qs : List PeerNo)
@@ -49,7 +49,7 @@ TellsSince told L old new =
     → AllByRecursion (λ q. BoxKept L (sent q) new q) qs
 
 module _ {S : Type 0} (seen : EndsOf S) where
-  -- What a peer may be given that has done nothing.
+  -- What a peer that has done nothing may be given.
   pub record MayBegin (a : Assignment) (router : RouterView) (ends : S) : Type 0 where
     pub small : a.rounds * a.round_ms < 2 ^ 64
     pub neighbours : a.neighbours.items ≡ links_of router.peer
@@ -68,7 +68,7 @@ module _ {S : Type 0} (seen : EndsOf S) where
     pub kept : Kept (seat_of t) (words_of (seen.taken t.ends)) (words_of (seen.accepted t.ends)) (phase_of t.phase)
         t.player.inboxes.items t.outboxes t.player.router t.player.refused.items t.first.value t.player.words
 
-  -- A step goes on: what is kept is kept, and what was given stays.
+  -- After a step the task still keeps what it must keep, and what it was given stays.
   pub record Goes {G : Type 0} (old new : Running G S) : Type 0 where
     pub kept : IsKept new
     pub seat : seat_of new ≡ seat_of old
@@ -88,7 +88,7 @@ pub record IsOver {G S : Type 0} (t : Running G S) : Type 0 where
   pub full : AllFull t.player.inboxes.items
   pub silent : AllSilent t.outboxes t.player.inboxes.items
 
--- what is left of it, where its router stands so
+-- what remains of a task's run, with this final state of its router
 abbrev pub left_of : {G S : Type 0} → Running G S → FinalState → FinishedTask S
 left_of t state = record {
   trace = t.player.router.trace;

@@ -19,15 +19,15 @@ OnlyListens old new =
 abbrev pub OnlyOffers : {G S : Type 0} → Running G S → Running G S → Type 0
 OnlyOffers old new = new ≡ record old { outboxes = new.outboxes; ends = new.ends }
 
--- where it was last seen that not all is taken, and nothing else
+-- the place of the inbox that was last seen not full, and nothing else
 abbrev pub OnlyLooks : {G S : Type 0} → Running G S → Running G S → Type 0
 OnlyLooks old new = new ≡ record old { last_not_full = new.last_not_full }
 
 -- ---- a step
 
 module _ {S : Type 0} (seen : EndsOf S) where
-  -- Nothing moved: nothing was taken and nothing accepted, and what waits says what it said. No round was played,
-  -- so the phase stays, and the router, and all that was taken and not handled.
+  -- Nothing moved: nothing was taken and nothing accepted, and what waits says what it said. No round was played, so the
+  -- phase and the router stay, and so does all that was taken and not handled.
   pub record Still {G : Type 0} (old new : Running G S) : Type 0 where
     pub taken : AllStay (seen.taken old.ends) (seen.taken new.ends)
     pub accepted : AllStay (seen.accepted old.ends) (seen.accepted new.ends)
@@ -40,8 +40,8 @@ module _ {S : Type 0} (seen : EndsOf S) where
   abbrev pub PlaysDue : {G : Type 0} → Running G S → Running G S → Type 0
   PlaysDue old new = (is_due old ≡ true) × (new.phase ≡ phase_after old.assignment.rounds old.phase)
 
-  -- One slot more is taken of the neighbour whose turn it was, or the round was due and was played; or one slot more is
-  -- accepted by that neighbour, or an empty frame was let go that waited first for it.
+  -- One slot more was taken from the neighbour whose turn it was, or the round was due and was played. Or one slot more was
+  -- accepted for that neighbour, or an empty frame that waited first for it was dropped.
   abbrev pub Moves : {G : Type 0} → Running G S → Running G S → Type 0
   Moves old new =
       GrewAt (whose_turn old) true (seen.taken old.ends) (seen.taken new.ends)
@@ -49,12 +49,12 @@ module _ {S : Type 0} (seen : EndsOf S) where
       ⊎ MovesAt (whose_turn old) true (seen.accepted old.ends) (seen.accepted new.ends)
       (waiting old.outboxes) (waiting new.outboxes))
 
-  -- How a step ends that says whether something moved.
+  -- What holds after a step, which answers whether something moved.
   pub record StepsTo {G : Type 0} (moved : Bool) (old new : Running G S) : Type 0 where
     pub still : moved ≡ false → Still old new
     pub moves : moved ≡ true → Moves old new
-    -- A round that was due was played, and one that came to be due was played in the same step: one that is due
-    -- then is the next one. None is where nothing moved.
+    -- A round that was due was played, and so was one that became due in this step. A round that is due after the step is
+    -- the next one. Where nothing moved, none is due.
     pub plays : is_due old ≡ true → PlaysDue old new
     pub at_once : is_due new ≡ true → new.phase ≡ phase_after old.assignment.rounds old.phase
     pub none_due : moved ≡ false → is_due new ≡ false
@@ -64,7 +64,7 @@ module _ {S : Type 0} (seen : EndsOf S) where
 -- ---- a poll
 
 module _ {S : Type 0} (seen : EndsOf S) where
-  -- this many steps lead from the one to the other, and nothing moved in the last `idle` of them
+  -- this many steps lead from `old` to `new`, and nothing moved in the last `idle` of them
   abbrev pub Steps : {G : Type 0} → ℕ → ℕ → Running G S → Running G S → Type 0
   Steps zero idle old new = (idle ≡ 0) × (new ≡ old)
   Steps {G} (suc k) idle old new =
@@ -73,8 +73,8 @@ module _ {S : Type 0} (seen : EndsOf S) where
       × StepsTo seen moved mid new
       × (idle ≡ (if moved then 0 else suc before))
 
-  -- It takes at most `most` steps. It takes fewer where nothing moved in more steps in a row than there are neighbours,
-  -- so that each was looked at; and then no round is due.
+  -- A poll takes at most `most` steps. It takes fewer where nothing moved in more steps in a row than there are neighbours.
+  -- Then each neighbour was looked at, and no round is due.
   pub record Polls {G : Type 0} (most : ℕ) (old new : Running G S) : Type 0 where
     pub count : ℕ
     pub bounded : count ≤ most

@@ -8,12 +8,12 @@ pub struct Assignment {
     pub number: PeerNo,
     /// The numbers of its neighbours, ascending.
     pub neighbours: Vec<PeerNo>,
-    /// Its lines of the script, by rounds.
+    /// Its lines of the script, by round.
     pub lines: Agenda,
     /// The length of a round in milliseconds: 1 to 60,000.
     pub round_ms: u64,
     /// The last round, where the first is 0: 1 to 100,000.
     pub rounds: u64,
-    /// The number of the worker that it runs on.
+    /// The number of the worker on which it runs.
     pub worker: usize,
 }

@@ -9,14 +9,14 @@ use crate::outboxes::Outboxes;
 use gs_base::PeerNo;
 use std::alloc::{AllocError, Global};
 
-/// Where lies what comes from each neighbour, and what goes to it.
+/// What comes from each neighbour, and what goes to it.
 #[derive(Drop)]
 pub struct Boxes {
     pub inboxes: Vec<Inbox>,
     pub outboxes: Outboxes,
 }
 
-/// Boxes for these neighbours, of whom nothing was taken. Nothing waits for them, and nothing is gathered.
+/// Creates boxes for these neighbours. Nothing was taken from them, nothing waits for them, and nothing is gathered.
 pub fn boxes_of(alloc: Global, neighbours: &[PeerNo]) -> Result<Boxes, AllocError>
     ensures inboxes { IfOk result (λ boxes. boxes.inboxes.items ≡ map new_inbox neighbours.now) }
     ensures open { IfOk result (λ boxes. AllByRecursion (λ q. is_open boxes.outboxes q ≡ true) neighbours.now) }

@@ -1,4 +1,4 @@
-//! The frames of RPCs. The last one is kept for whoever gets the same.
+//! The frames of RPCs. The last one is kept for the next neighbour that gets the same RPC.
 ghost use Rattle.std.specs.Prelude.{◌≡◌, true, IfOk};
 ghost use Rattle.gs_wire.specs.Codec.{codec};
 
@@ -6,7 +6,8 @@ use gs_base::{Rpc, Shared, clone_of};
 use gs_wire::{WireFault, WrittenRpc};
 use std::alloc::{AllocError, Global};
 
-/// An RPC with its frame: the last one where that is the same RPC, else one that is written now, and is then the last.
+/// Returns an RPC with its frame. That is the last one if it has the same RPC. Otherwise a new one is written, and becomes
+/// the last.
 pub(crate) fn written_for(
     alloc: Global,
     last: &mut Option<Shared<WrittenRpc>>,

@@ -1,6 +1,6 @@
-/// Whoever hears of each round that a peer begins. Nothing is claimed of when or how often.
+/// A listener for the rounds that peers begin. No contract says when or how often it is called.
 pub trait Gate: Drop {
-    /// A peer on this worker begins this round.
+    /// Reports that a peer on this worker begins this round.
     fn begin_round(&self, worker: usize, round: u64);
 }
 
@@ -10,7 +10,7 @@ impl<G: Gate> Gate for &G {
     }
 }
 
-/// A gate that nobody watches.
+/// A gate that does nothing.
 #[derive(Clone, Copy, Debug, Drop)]
 pub struct NoGate;
 

@@ -1,4 +1,4 @@
-//! How a task has its router hear what came.
+//! How a task passes what came to its router.
 ghost use Rattle.std.specs.Prelude.{◌≡◌, [], ◌∷◌, ◌++◌, OnOk, List, Some, map};
 ghost use Rattle.std.specs.List.{AllByRecursion};
 ghost use Rattle.gs_params.specs.Seeding.{seeded_after, seeded_word};
@@ -14,7 +14,7 @@ use gs_player::never_refused;
 use gs_router::Router;
 use std::alloc::{AllocError, Global};
 
-/// Hears what is staged of each neighbour, one neighbour after the other, and begins the next phase.
+/// Hears what is staged from each neighbour, one neighbour after the other, and begins the next phase.
 pub fn hear(
     alloc: Global,
     router: &mut Router,
@@ -34,7 +34,7 @@ pub fn hear(
     Ok(())
 }
 
-/// Hears what is staged of a neighbour: the RPCs, and then that it is at fault or gone, where it is.
+/// Hears what is staged from a neighbour: the RPCs, and then that it had a fault or is gone, if so.
 fn hear_from(
     alloc: Global,
     router: &mut Router,

@@ -15,8 +15,8 @@ use std::alloc::{AllocError, Global};
 use std::marker::Model;
 use std::mem;
 
-/// What a task keeps of what comes from a neighbour: what it has read and not handled, and whether
-/// all is taken that it hears in its phase.
+/// What a task keeps about what comes from a neighbour. That is what it has read and not handled, and whether all is taken
+/// that it hears in its phase.
 #[derive(Drop)]
 pub struct Inbox {
     peer: PeerNo,
@@ -24,7 +24,7 @@ pub struct Inbox {
     stage: Vec<Rpc>,
     is_marked: bool,
     is_closed: bool,
-    /// The bytes spell no RPC any more.
+    /// The bytes no longer spell RPCs.
     is_failed: bool,
 }
 
@@ -46,7 +46,8 @@ impl Model for Inbox {
 }
 
 impl Inbox {
-    /// An inbox for which nothing was taken. In the first round there is nothing to hear.
+    /// Creates an inbox for a neighbour from which nothing was taken. It is full, since there is nothing to hear in the first
+    /// round.
     pub fn new(alloc: Global, peer: PeerNo) -> Inbox
         ensures { result ≡ new_inbox peer }
     {
@@ -60,35 +61,35 @@ impl Inbox {
         }
     }
 
-    /// The neighbour whose words are taken here.
+    /// Returns the neighbour from which this inbox takes.
     pub fn peer(&self) -> PeerNo
         ensures { result ≡ self.now.peer }
     {
         self.peer
     }
 
-    /// Whether all is taken that is heard in this phase.
+    /// Says whether all is taken that is heard in this phase.
     pub fn is_full(&self) -> bool
         ensures { result ≡ is_full self.now }
     {
         self.is_marked || self.is_closed
     }
 
-    /// Whether the close was taken.
+    /// Says whether the close was taken.
     pub fn is_closed(&self) -> bool
         ensures { result ≡ self.now.is_closed }
     {
         self.is_closed
     }
 
-    /// Whether its bytes spell no RPC, or end within one.
+    /// Says whether its bytes spell no RPC, or end within one.
     pub fn is_broken_off(&self) -> bool
         ensures { result ≡ is_broken_off self.now }
     {
         self.is_failed || (self.is_closed && self.reader.pending() != 0)
     }
 
-    /// Gives what is staged, and begins the next phase.
+    /// Returns what is staged, and begins the next phase.
     pub fn begin_phase(&mut self, alloc: Global) -> Vec<Rpc>
         ensures staged { result.items ≡ self.old.stage }
         ensures in_next_phase { self.new ≡ in_next_phase self.old }
@@ -97,11 +98,11 @@ impl Inbox {
         mem::replace(&mut self.stage, Vec::new(alloc))
     }
 
-    /// Takes what comes next from the neighbour, if anything does. Nobody calls it after the mark of a phase, so the
-    /// stage holds what one round brought.
+    /// Takes what comes next from the neighbour, and returns whether anything came. No caller takes more after the round end
+    /// that ends a phase, so the stage holds what one round brought.
     ///
     /// # Errors
-    /// `AllocError` where there was no memory for it.
+    /// `AllocError` if memory runs out.
     pub fn listen<S: Ends>(
         &mut self,
         alloc: Global,
@@ -135,10 +136,10 @@ impl Inbox {
         }
     }
 
-    /// Reads a piece: the RPCs that are whole now are staged.
+    /// Reads a piece, and stages the RPCs that are complete with it.
     ///
     /// # Errors
-    /// `AllocError` where the reader had no memory for it. The inbox is as it was then, and its reader has not failed.
+    /// `AllocError` if the reader runs out of memory. The inbox is then as it was, and its reader has not failed.
     fn read(&mut self, alloc: Global, piece: &[u8]) -> Result<(), AllocError>
         ensures fed { OnOk result (FeedsPiece self.old piece.now self.new) }
         ensures memory { OnErr result ((self.new ≡ self.old) × IsSome self.old.reader.held) }
@@ -159,7 +160,7 @@ impl Inbox {
     }
 }
 
-/// Whether the end of this round ends what is heard in a phase: that is the round before.
+/// Whether the end of this round ends what is heard in a phase. In a round, that is the end of the round before.
 fn ends_hearing(phase: Phase, round: u64) -> bool
     ensures { result ≡ is_mark (phase_of phase) round }
 {

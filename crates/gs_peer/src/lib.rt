@@ -1,4 +1,4 @@
-//! A peer's whole life as a future that is polled by hand, over any ends of links.
+//! A peer's whole run as a future that is polled by hand, over any ends of links.
 #![tactic(auto)]
 
 mod assignment;

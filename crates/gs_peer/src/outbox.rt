@@ -18,7 +18,7 @@ use gs_link::{Item, LONGEST_PIECE, SendRefused, Slot};
 use gs_wire::{Gathered, WrittenRpc};
 use std::alloc::{AllocError, Global};
 
-/// What waits to go to a neighbour, what is gathered to go out as one RPC after it, and whether more may be said.
+/// What waits to go to a neighbour, the RPC that is gathered to go out after it, and whether more may be said.
 #[derive(Drop)]
 pub struct Outbox {
     pub(crate) slots: SlotQueue,
@@ -27,7 +27,7 @@ pub struct Outbox {
 }
 
 impl Outbox {
-    /// An outbox in which nothing waits, and to which more may be said.
+    /// Creates an outbox in which nothing waits. More may be said to its neighbour.
     pub(crate) fn new(alloc: Global) -> Outbox
         ensures slots { result.slots ≡ [] }
         ensures gathered { result.gathered ≡ None }
@@ -40,7 +40,7 @@ impl Outbox {
         }
     }
 
-    /// Gathers an RPC, if more may be said. What was gathered goes out first where the two do not fit one frame.
+    /// Gathers an RPC, if more may be said. If it does not fit one frame with what was gathered, that is queued first.
     pub(crate) fn send(&mut self, alloc: Global, rpc: &Shared<WrittenRpc>) -> Result<(), AllocError>
         requires fits { codec.fits rpc.now ≡ true }
         ensures told { OnOk result (outgoing_of self.new
@@ -58,7 +58,7 @@ impl Outbox {
         Ok(())
     }
 
-    /// Puts bytes as they are after what is gathered, if more may be said.
+    /// Queues raw bytes after what is gathered, if more may be said.
     pub(crate) fn put_raw(&mut self, alloc: Global, bytes: Bytes) -> Result<(), AllocError>
         ensures told { OnOk result (outgoing_of self.new
             ≡ (if self.old.is_open
@@ -74,7 +74,7 @@ impl Outbox {
         Ok(())
     }
 
-    /// Ends a round after what is gathered, if more may be said.
+    /// Queues the end of a round after what is gathered, if more may be said.
     pub(crate) fn mark(&mut self, alloc: Global, round: u64) -> Result<(), AllocError>
         ensures told { OnOk result (outgoing_of self.new
             ≡ (if self.old.is_open
@@ -90,7 +90,7 @@ impl Outbox {
         Ok(())
     }
 
-    /// Says nothing more but what is gathered and the close, if more might be said.
+    /// Queues what is gathered and then the close, if more may be said. Nothing is said after the close.
     pub(crate) fn close(&mut self, alloc: Global) -> Result<(), AllocError>
         ensures told { OnOk result (outgoing_of self.new
             ≡ (if self.old.is_open
@@ -107,7 +107,7 @@ impl Outbox {
         Ok(())
     }
 
-    /// Puts the frame of what is gathered at the back, where something is.
+    /// Queues the frame of what is gathered, if anything is.
     fn put_out(&mut self, alloc: Global) -> Result<(), AllocError>
         ensures told { OnOk result (outgoing_of self.new ≡ cut_out codec (outgoing_of self.old)) }
         ensures open { OnOk result (self.new.is_open ≡ self.old.is_open) }
@@ -121,8 +121,8 @@ impl Outbox {
         }
     }
 
-    /// Offers a neighbour what waits first: a mark, the close, or a piece of what was put there whole. What is
-    /// refused waits on.
+    /// Offers a neighbour what waits first: the end of a round, the close, or a piece of what was queued whole. What is
+    /// refused stays at the front.
     pub(crate) fn offer<S: Ends>(&mut self, ends: &mut S, to: PeerNo) -> Result<bool, AllocError>
         requires { has (S.joints ends.old) to ≡ true }
         ensures joints { S.joints ends.new ≡ S.joints ends.old }
@@ -144,7 +144,7 @@ impl Outbox {
         }
     }
 
-    /// Offers the first piece of a frame that was taken off the front, and puts back what is left.
+    /// Offers the first piece of a frame that was taken off the front, and puts the rest back.
     fn offer_frame<S: Ends>(
         &mut self,
         ends: &mut S,
@@ -172,7 +172,7 @@ impl Outbox {
         Ok(moved)
     }
 
-    /// Cuts the first piece off a frame, and puts what is left of it to the front.
+    /// Cuts the first piece off a frame, and puts the rest of the frame at the front.
     fn cut(&mut self, mut frame: Bytes) -> Result<Bytes, AllocError>
         requires { 1 ≤ length frame }
         ensures sized { IfOk result IsPiece }
@@ -189,8 +189,8 @@ impl Outbox {
         Ok(piece)
     }
 
-    /// Offers an item that was taken off the front. It goes back where it is refused.
-    // Each piece goes out here: inlined, it is moved once less.
+    /// Offers an item that was taken off the front. If it is refused, it goes back there.
+    // Each piece goes out here. Inlining saves one move of it.
     #[inline(always)]
     fn offer_item<S: Ends>(
         &mut self,
@@ -223,7 +223,7 @@ impl Outbox {
         }
     }
 
-    /// Offers the close that was taken off the front. It goes back where it is refused.
+    /// Offers the close that was taken off the front. If it is refused, it goes back there.
     fn offer_close<S: Ends>(&mut self, ends: &mut S, to: PeerNo) -> Result<bool, AllocError>
         requires { has (S.joints ends.old) to ≡ true }
         ensures joints { S.joints ends.new ≡ S.joints ends.old }
@@ -245,7 +245,7 @@ impl Outbox {
         }
     }
 
-    // A link is seldom full.
+    // Not inlined: a link is seldom full.
     #[inline(never)]
     fn put_back(&mut self, item: Item) -> Result<(), AllocError>
         ensures says { OnOk result (flat self.new.slots ≡ flat (slot_of item ∷ self.old.slots)) }

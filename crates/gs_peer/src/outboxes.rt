@@ -26,20 +26,19 @@ use gs_wire::WrittenRpc;
 use indexmap::IndexMap;
 use std::alloc::{AllocError, Global};
 
-/// What waits to go to each neighbour, in the order of the neighbours. What is sent is gathered, and waits as one frame
-/// from the next cut on: where a round ends, bytes go out as they are, the link is closed, or one more RPC does not fit.
-/// A frame waits whole and goes out in pieces, and so do bytes as they are. The frame of a single RPC is shared by all
-/// whom it goes to.
+/// What waits to go to each neighbour, in the order of the neighbours. RPCs are gathered, and wait as one frame from the next
+/// cut on. A cut is where a round ends, raw bytes go out, the link is closed, or one more RPC does not fit. Frames and raw
+/// bytes wait whole and go out in pieces. All neighbours that get the same single RPC share its frame.
 #[derive(Drop)]
 pub struct Outboxes {
     boxes: IndexMap<PeerNo, Outbox>,
 }
 
 impl Outboxes {
-    /// Outboxes of these neighbours, in which nothing waits and nothing is gathered.
+    /// Creates outboxes for these neighbours, in which nothing waits and nothing is gathered.
     ///
     /// # Errors
-    /// `AllocError` where there was no memory for them.
+    /// `AllocError` if memory runs out.
     pub fn new(alloc: Global, neighbours: &[PeerNo]) -> Result<Outboxes, AllocError>
         ensures open { IfOk result (λ out. AllByRecursion (λ q. is_open out q ≡ true) neighbours.now) }
         ensures alone { IfOk result (λ out. (q : PeerNoValue) → is_open out q ≡ is_neighbour neighbours.now q) }
@@ -55,7 +54,7 @@ impl Outboxes {
         Ok(out)
     }
 
-    /// Adds the outbox of a neighbour, in which nothing waits.
+    /// Adds an outbox for a neighbour, in which nothing waits.
     fn open(&mut self, alloc: Global, peer: PeerNo) -> Result<(), AllocError>
         ensures opened { OnOk result (is_open self.new peer ≡ true) }
         ensures alone { OnOk result ((q : PeerNoValue) → is_open self.new q ≡ (is_open self.old q || same_peer peer q)) }
@@ -68,10 +67,10 @@ impl Outboxes {
         Ok(())
     }
 
-    /// Sends the neighbours what these entries say, the first one first.
+    /// Queues for the neighbours what these entries say, from the first entry to the last.
     ///
     /// # Errors
-    /// `AllocError` where there was no memory for it.
+    /// `AllocError` if memory runs out.
     pub fn tell_all(&mut self, alloc: Global, entries: &[StoredEntry]) -> Result<(), AllocError>
         requires { AllFit codec entries.now }
         ensures told { OnOk result ((q : PeerNoValue)
@@ -86,7 +85,7 @@ impl Outboxes {
         Ok(())
     }
 
-    /// Sends the neighbours what an entry says.
+    /// Queues for the neighbours what an entry says.
     fn tell(&mut self, alloc: Global, entry: &StoredEntry) -> Result<(), AllocError>
         requires { SendsFit codec entry.now.effects.sends }
         ensures told { OnOk result ((q : PeerNoValue)
@@ -102,7 +101,7 @@ impl Outboxes {
         Ok(())
     }
 
-    /// Gathers what an entry sends. An RPC that goes to several neighbours, one after the other, is written once.
+    /// Gathers what an entry sends. An RPC that goes to several neighbours in a row is written once.
     fn send_all(&mut self, alloc: Global, sends: &[(PeerNo, Shared<Rpc>)]) -> Result<(), AllocError>
         requires { SendsFit codec sends.now }
         ensures told { OnOk result ((q : PeerNoValue)
@@ -144,7 +143,7 @@ impl Outboxes {
         }
     }
 
-    /// Puts what an event says after what is gathered.
+    /// Queues what an event says after what is gathered.
     fn tell_event(&mut self, alloc: Global, event: &Event) -> Result<(), AllocError>
         ensures told { OnOk result ((q : PeerNoValue)
             → outgoing_in self.new q
@@ -167,7 +166,7 @@ impl Outboxes {
         }
     }
 
-    /// Puts what an act of the peer's own user says after what is gathered.
+    /// Queues what an act of the peer's own user says after what is gathered.
     fn tell_act(&mut self, alloc: Global, act: &Act) -> Result<(), AllocError>
         ensures told { OnOk result ((q : PeerNoValue)
             → outgoing_in self.new q
@@ -186,7 +185,7 @@ impl Outboxes {
         }
     }
 
-    /// Puts bytes as they are after what is gathered for a neighbour.
+    /// Queues raw bytes after what is gathered for a neighbour, if more may be said to it.
     fn put_raw(&mut self, alloc: Global, to: PeerNo, bytes: Bytes) -> Result<(), AllocError>
         ensures told { OnOk result ((q : PeerNoValue)
             → outgoing_in self.new q
@@ -204,7 +203,7 @@ impl Outboxes {
         }
     }
 
-    /// Ends a round for each neighbour to which more may be said.
+    /// Queues the end of a round for each neighbour to which more may be said.
     fn mark_all(&mut self, alloc: Global, round: u64) -> Result<(), AllocError>
         ensures told { OnOk result ((q : PeerNoValue)
             → outgoing_in self.new q
@@ -219,7 +218,7 @@ impl Outboxes {
         Ok(())
     }
 
-    /// Ends a round for the neighbour at this place, where more may be said to it.
+    /// Queues the end of a round for the neighbour at this place, if more may be said to it.
     fn mark_at(&mut self, alloc: Global, place: usize, round: u64) -> Result<(), AllocError>
         ensures told { OnOk result ((q : PeerNoValue)
             → outgoing_in self.new q
@@ -238,7 +237,7 @@ impl Outboxes {
         }
     }
 
-    /// Says nothing more to a neighbour, but what is gathered and the close after what waits.
+    /// Queues what is gathered for a neighbour and then the close, if more may be said to it. Nothing is said to it after that.
     fn close(&mut self, alloc: Global, to: PeerNo) -> Result<(), AllocError>
         ensures told { OnOk result ((q : PeerNoValue)
             → outgoing_in self.new q
@@ -257,7 +256,7 @@ impl Outboxes {
         }
     }
 
-    /// Says nothing more to anyone, but what is gathered and the close after what waits.
+    /// Queues what is gathered and then the close, for each neighbour to which more may be said. Nothing is said after that.
     fn close_all(&mut self, alloc: Global) -> Result<(), AllocError>
         ensures told { OnOk result ((q : PeerNoValue)
             → outgoing_in self.new q
@@ -272,7 +271,7 @@ impl Outboxes {
         Ok(())
     }
 
-    /// Says nothing more to the neighbour at this place, but what is gathered and the close after what waits.
+    /// Queues what is gathered and then the close for the neighbour at this place, if more may be said to it.
     fn close_at(&mut self, alloc: Global, place: usize) -> Result<(), AllocError>
         ensures told { OnOk result ((q : PeerNoValue)
             → outgoing_in self.new q
@@ -292,11 +291,11 @@ impl Outboxes {
         }
     }
 
-    /// Offers a neighbour what waits first for it. True where something moved: a slot was accepted,
-    /// at most one. Its outbox is looked for at a place first, and then by its number.
+    /// Offers a neighbour what waits first for it, and returns whether something moved. Either one slot was accepted, or an
+    /// empty frame was dropped. The outbox is looked for at the place `near` first, and then by the neighbour's number.
     ///
     /// # Errors
-    /// `AllocError` where there was no memory to cut a frame.
+    /// `AllocError` if memory runs out.
     pub fn offer<S: Ends>(
         &mut self,
         ends: &mut S,
@@ -345,7 +344,8 @@ impl Outboxes {
         }
     }
 
-    /// Whether nothing waits for a neighbour. Its outbox is looked for at a place first, and then by its number.
+    /// Says whether nothing waits for a neighbour. The outbox is looked for at the place `near` first, and then by the
+    /// neighbour's number.
     pub fn is_silent_near(&self, to: PeerNo, near: usize) -> bool
         ensures { result ≡ is_silent self.now to }
     {
@@ -360,7 +360,7 @@ impl Outboxes {
         }
     }
 
-    /// Whether nothing waits for a neighbour.
+    /// Says whether nothing waits for a neighbour.
     pub fn is_silent(&self, to: PeerNo) -> bool
         ensures silent { result ≡ true → waiting self.now to ≡ [] }
         ensures exact { result ≡ is_silent self.now to }

@@ -1,4 +1,4 @@
-/// Where a peer is in its life.
+/// Where a peer is in its run.
 #[derive(Clone, Copy, Debug, PartialEq, Eq)]
 pub enum Phase {
     /// In a round.

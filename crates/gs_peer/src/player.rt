@@ -20,20 +20,20 @@ use std::alloc::{AllocError, Global};
 #[derive(Drop)]
 pub struct Player {
     pub router: Router,
-    /// What the router's choices are made by.
+    /// The random words that decide the router's choices.
     pub words: SeededWords,
-    /// What it could not follow so far.
+    /// The lines that it could not follow so far.
     pub refused: Vec<RefusedLine>,
     /// What comes from each neighbour, in the order of their numbers.
     pub inboxes: Vec<Inbox>,
 }
 
 impl Player {
-    /// Plays a round: hears what came, follows those of the lines that are for it, lowers the counters of scores and
-    /// has a heartbeat, each if it is due, and ends it.
+    /// Plays a round: hears what came, follows the lines of the round, and ends the round. Before the end it lowers the
+    /// counters of scores if that is due, and then has a heartbeat if one is due.
     ///
     /// # Errors
-    /// `AllocError` where there was no memory.
+    /// `AllocError` if memory runs out.
     pub fn play(
         &mut self,
         alloc: Global,
@@ -64,10 +64,10 @@ impl Player {
         Ok(())
     }
 
-    /// Shuts down: nothing is said any more.
+    /// Shuts the peer down. It says nothing more after that.
     ///
     /// # Errors
-    /// `AllocError` where there was no memory.
+    /// `AllocError` if memory runs out.
     pub fn shut(&mut self, now: Millis) -> Result<(), AllocError>
         requires { IsRunning now self.old.router }
         ensures runs { OnOk result (Runs (exact seeded_word seeded_after) now (Stop ∷ [])
@@ -79,10 +79,10 @@ impl Player {
         Ok(())
     }
 
-    /// Hears what came.
+    /// Hears what came from each neighbour.
     ///
     /// # Errors
-    /// `AllocError` where there was no memory.
+    /// `AllocError` if memory runs out.
     pub fn hear(&mut self, alloc: Global, now: Millis) -> Result<(), AllocError>
         requires running { IsRunning now self.old.router }
         requires fit { AllByRecursion (λ x. RpcsFit x.stage) self.old.inboxes.items }

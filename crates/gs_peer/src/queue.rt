@@ -10,11 +10,11 @@ use std::collections::VecDeque;
 use std::marker::Model;
 use std::mem;
 
-/// What waits to go to a neighbour. Contracts see the slots, the front first.
+/// What waits to go to a neighbour. Contracts see the slots, from the front to the back.
 #[derive(Drop)]
 pub struct SlotQueue {
-    /// What is left of the frame that goes out, before the others. It stands apart, so that a piece that is cut off
-    /// moves nothing in the queue.
+    /// The rest of the frame that is going out, before the other slots. It is kept apart, so that cutting a piece off moves
+    /// nothing in the queue.
     rest: Bytes,
     items: VecDeque<Slot>,
 }
@@ -30,7 +30,7 @@ impl Model for SlotQueue {
 }
 
 impl SlotQueue {
-    /// The empty queue. It takes no memory.
+    /// Creates an empty queue. It takes no memory.
     pub fn new(alloc: Global) -> SlotQueue
         ensures { result ≡ [] }
     {
@@ -40,14 +40,14 @@ impl SlotQueue {
         }
     }
 
-    /// Whether nothing waits.
+    /// Says whether nothing waits.
     pub fn is_empty(&self) -> bool
         ensures { result ≡ (length self.now == 0) }
     {
         self.rest.is_empty() && self.items.is_empty()
     }
 
-    /// Takes the front.
+    /// Takes the slot at the front, if there is one.
     #[inline(always)]
     pub fn pop_front(&mut self) -> Option<Slot>
         ensures { MatchOption result ((self.old ≡ []) × (self.new ≡ [])) (λ item. self.old ≡ item ∷ self.new) }
@@ -61,7 +61,7 @@ impl SlotQueue {
     /// Adds a slot at the back.
     ///
     /// # Errors
-    /// `AllocError` where there was no memory; the queue is then as it was.
+    /// `AllocError` if memory runs out. The queue is then as it was.
     pub fn push_back(&mut self, slot: Slot) -> Result<(), AllocError>
         ensures ok { OnOk result (self.new ≡ self.old ++ slot ∷ []) }
         ensures err { OnErr result (self.new ≡ self.old) }
@@ -70,10 +70,10 @@ impl SlotQueue {
         Ok(())
     }
 
-    /// Puts what is left of a frame to the front.
+    /// Puts the rest of a frame at the front.
     ///
     /// # Errors
-    /// `AllocError` where there was no memory; the queue is then as it was.
+    /// `AllocError` if memory runs out. The queue is then as it was.
     #[inline(always)]
     pub fn push_rest(&mut self, frame: Bytes) -> Result<(), AllocError>
         requires { 1 ≤ length frame }
@@ -85,10 +85,10 @@ impl SlotQueue {
         Ok(())
     }
 
-    /// Puts a slot to the front.
+    /// Puts a slot at the front.
     ///
     /// # Errors
-    /// `AllocError` where there was no memory; the queue is then as it was.
+    /// `AllocError` if memory runs out. The queue is then as it was.
     pub fn push_front(&mut self, slot: Slot) -> Result<(), AllocError>
         ensures ok { OnOk result (self.new ≡ slot ∷ self.old) }
         ensures err { OnErr result (self.new ≡ self.old) }
@@ -100,8 +100,8 @@ impl SlotQueue {
     }
 }
 
-/// Puts the rest of a frame before slots, where anything is left.
-// Where a piece was cut off a frame, nothing is.
+/// Puts the rest of a frame before the slots, if anything is left of it.
+// Nothing is left where a piece was just cut off a frame.
 #[inline(always)]
 fn put_ahead(items: &mut VecDeque<Slot>, rest: &Bytes) -> Result<(), AllocError>
     ensures ok { OnOk result (items.new.items ≡ ahead rest.now items.old.items) }

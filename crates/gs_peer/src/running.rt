@@ -1,4 +1,4 @@
-//! A peer's life, step by step.
+//! A peer's run, step by step.
 ghost use Rattle.std.specs.Prelude.{◌≡◌, ◌<◌, ◌≤◌, ◌+◌, ◌-◌, ◌*◌, ◌^◌, ℕ, false, true, ◌&&◌, ◌||◌, if◌then◌else◌, length, min, IfOk, OnOk};
 ghost use Rattle.gs_base.specs.declared.names.PeerNo.{PeerNo as PeerNoValue};
 ghost use Rattle.gs_rules.specs.Legal.{Legal};
@@ -28,7 +28,7 @@ use gs_router::Router;
 use std::alloc::{AllocError, Global};
 use std::snapshot::Snapshot;
 
-/// A router, and the words by which it chooses.
+/// A router, and the random words that decide its choices.
 #[derive(Drop)]
 pub struct Chooser {
     pub router: Router,
@@ -42,22 +42,22 @@ pub struct Running<G: Gate, S: Ends> {
     assignment: Assignment,
     gate: G,
     player: Player,
-    /// What the words of its choices were at first, only for proofs.
+    /// The state of the random words at first, only for proofs.
     first: Snapshot<SeededWords>,
     phase: Phase,
     outboxes: Outboxes,
-    /// Which neighbour is looked at next, by its place among them.
+    /// The place of the neighbour that is looked at next.
     turn: usize,
-    /// The place of the inbox that was last seen where not all is taken that is heard.
+    /// The place of the inbox that was last seen not full.
     last_not_full: usize,
     ends: S,
 }
 
 impl<G: Gate, S: Ends> Running<G, S> {
-    /// A peer that has done nothing.
+    /// Creates a peer that has done nothing yet.
     ///
     /// # Errors
-    /// `AllocError` where there was no memory for it.
+    /// `AllocError` if memory runs out.
     pub fn new(
         alloc: Global,
         assignment: Assignment,
@@ -91,17 +91,18 @@ impl<G: Gate, S: Ends> Running<G, S> {
         })
     }
 
-    /// Exchanges what its router keeps of payloads with what is lent.
+    /// Swaps what its router knows about payloads with `payloads`.
     pub fn exchange_payloads(&mut self, payloads: &mut Payloads)
         ensures { self.new ≡ self.old }
     {
         self.player.router.exchange_payloads(payloads);
     }
 
-    /// Steps, 64 of them, or fewer where nothing moves while it looks at each neighbour. True where the life has ended.
+    /// Takes at most 64 steps, and returns whether the run has ended. It takes fewer only where nothing moves in more steps in a
+    /// row than there are neighbours.
     ///
     /// # Errors
-    /// `AllocError` where there was no memory.
+    /// `AllocError` if memory runs out.
     pub fn run(&mut self) -> Result<bool, AllocError>
         requires { IsKept S.Ends self.old }
         ensures goes { OnOk result (Goes S.Ends self.old self.new) }
@@ -123,9 +124,9 @@ impl<G: Gate, S: Ends> Running<G, S> {
         Ok(over)
     }
 
-    /// Looks at the neighbour whose turn it is: takes an item, plays the round where all is taken that
-    /// is heard in it, and has an item accepted. True where something moved. It keeps its turn where
-    /// more may move, so that no link is looked at in vain.
+    /// Looks at the neighbour whose turn it is, and returns whether something moved. It takes an item from the neighbour, plays
+    /// the round if all is taken that is heard in it, and has an item accepted. The neighbour keeps its turn if something moved
+    /// and more may move, so that no link is looked at in vain.
     fn step(&mut self) -> Result<bool, AllocError>
         requires { IsKept S.Ends self.old }
         ensures goes { OnOk result (Goes S.Ends self.old self.new) }
@@ -142,7 +143,7 @@ impl<G: Gate, S: Ends> Running<G, S> {
         Ok(moved)
     }
 
-    /// Whether more is to be taken of the neighbour whose turn it is, or waits for it.
+    /// Whether more is to be taken from the neighbour whose turn it is, or something waits for it.
     fn has_more(&self) -> bool
         ensures { result ≡ has_more_at self.now self.now.turn }
     {
@@ -153,8 +154,7 @@ impl<G: Gate, S: Ends> Running<G, S> {
         !inbox.is_full() || !self.outboxes.is_silent_near(inbox.peer(), self.turn)
     }
 
-    /// Takes what comes next from the neighbour whose turn it is, unless all is taken that is heard
-    /// of it.
+    /// Takes what comes next from the neighbour whose turn it is, unless all is taken that is heard from it in this phase.
     fn listen(&mut self) -> Result<bool, AllocError>
         requires { IsKept S.Ends self.old }
         ensures goes { OnOk result (Goes S.Ends self.old self.new) }
@@ -201,7 +201,7 @@ impl<G: Gate, S: Ends> Running<G, S> {
         Ok(offered)
     }
 
-    /// Plays the round, where all is taken that is heard in it.
+    /// Plays the round if all is taken that is heard in it, and returns whether it did.
     fn play_if_due(&mut self) -> Result<bool, AllocError>
         requires { IsKept S.Ends self.old }
         ensures goes { OnOk result (Goes S.Ends self.old self.new) }
@@ -222,9 +222,8 @@ impl<G: Gate, S: Ends> Running<G, S> {
         Ok(true)
     }
 
-    /// Plays a round: hears what came, follows the lines, and ends it. After the last one it shuts
-    /// down.
-    // It stands apart from the steps, which are many for each round: its locals are not theirs.
+    /// Plays a round: hears what came, follows the lines, and ends the round. After the last round it shuts the peer down.
+    // Not inlined: each round has many steps, which need not make room for its locals.
     #[inline(never)]
     fn play(&mut self, round: u64) -> Result<(), AllocError>
         requires kept { IsKept S.Ends self.old }
@@ -251,7 +250,7 @@ impl<G: Gate, S: Ends> Running<G, S> {
         Ok(())
     }
 
-    /// Whether the life has ended, but for what still came: it has shut down, each neighbour has
+    /// Whether the run has ended, except that what came last is not heard yet. The peer has shut down, each neighbour has
     /// closed, and all that was said is accepted.
     fn is_over(&self) -> bool
         ensures { result ≡ is_over self.now }
@@ -262,10 +261,10 @@ impl<G: Gate, S: Ends> Running<G, S> {
         all_full(&self.player.inboxes) && all_silent(&self.outboxes, &self.player.inboxes)
     }
 
-    /// Hears what still came, and says how the router stands then.
+    /// Hears what came last, and returns the state of the router after that.
     ///
     /// # Errors
-    /// `AllocError` where there was no memory.
+    /// `AllocError` if memory runs out.
     pub fn final_state(&mut self) -> Result<FinalState, AllocError>
         requires kept { IsKept S.Ends self.old }
         requires over { IsOver self.old }
@@ -280,7 +279,7 @@ impl<G: Gate, S: Ends> Running<G, S> {
         Ok(FinalState { meshes, scores })
     }
 
-    /// What is left of the life, where the router stands so.
+    /// Returns what remains of the run, with this final state of the router.
     pub fn finish(self, state: FinalState) -> FinishedTask<S>
         ensures { result ≡ left_of self state }
     {
@@ -301,7 +300,7 @@ impl<G: Gate, S: Ends> Running<G, S> {
     }
 }
 
-/// Sends the neighbours what a router's trace says after its first `told` entries.
+/// Queues for the neighbours what a router's trace says after its first `told` entries.
 fn tell_since(
     alloc: Global,
     outboxes: &mut Outboxes,
@@ -316,8 +315,7 @@ fn tell_since(
     Ok(())
 }
 
-/// Whether all is taken that is heard in a phase. It looks first at the neighbour where that was
-/// last not so.
+/// Whether all is taken that is heard in a phase. It looks first at the inbox that was last seen not full.
 fn is_due(inboxes: &[Inbox], last_not_full: &mut usize) -> bool
     ensures { result ≡ are_full inboxes.now }
 {
@@ -329,7 +327,7 @@ fn is_due(inboxes: &[Inbox], last_not_full: &mut usize) -> bool
     all_full(inboxes)
 }
 
-/// The first inbox, from this one on, where not all is taken; or how many there are.
+/// Returns the place of the first inbox, from this one on, that is not full. If there is none, it returns how many there are.
 fn first_not_full(inboxes: &[Inbox], from: usize) -> usize
     ensures within { result ≤ length inboxes.now }
     ensures found { result < length inboxes.now → is_full_at inboxes.now result ≡ false }
@@ -365,7 +363,7 @@ fn all_silent(outboxes: &Outboxes, inboxes: &[Inbox]) -> bool
     true
 }
 
-/// For how many steps nothing has moved.
+/// Returns for how many steps in a row nothing has moved.
 fn idle_after(idle: usize, moved: bool) -> usize
     ensures { result ≡ (if moved then 0 else min (idle + 1) (2 ^ 64 - 1)) }
 {
@@ -379,7 +377,7 @@ fn is_any(listened: bool, played: bool, offered: bool) -> bool
     listened || played || offered
 }
 
-/// Whose turn is next: the next one's, unless something moved and more may move.
+/// Returns whose turn is next. The turn goes to the next neighbour, unless something moved and more may move.
 fn next_turn(turn: usize, neighbours: usize, moved: bool, more: bool) -> usize
     ensures { result ≡ turn_after turn neighbours (moved && more) }
 {

@@ -24,25 +24,24 @@ use gs_workers::{FoundUnset, StopFlag};
 use std::alloc::{AllocError, Global};
 use std::sync::{Arc, Mutex};
 
-/// What a task has around it: the ends of its peer's links, a gate, and the flag that stops it.
+/// What a task uses besides its router: the ends of its peer's links, a gate, a stop flag, and what is known about payloads.
 #[derive(Drop)]
 pub struct Surroundings<G: Gate, S: Ends> {
-    /// The ends of the links to and from each neighbour. None of them was used.
+    /// The ends of the links to and from each neighbour. Nothing has gone through them yet.
     pub ends: S,
-    /// It hears of each round that the peer begins.
+    /// It is called for each round that the peer begins.
     pub gate: G,
-    /// A task that runs out of memory sets it, and one that finds it set gives up.
+    /// A task that runs out of memory sets it. A task that finds it set stops with a fault.
     pub stop: Arc<StopFlag>,
-    /// What is known of payloads. Tasks that one thread polls share it, so that each payload is hashed once there. A poll
-    /// in which another thread has it goes on without.
+    /// What is known about payloads. The tasks that one thread polls share it, so that each payload is hashed once on that
+    /// thread. A poll goes on without it while another thread holds it.
     pub payloads: Arc<Mutex<Payloads>>,
 }
 
-/// A peer's whole life as a future, which is polled by hand. It gives what is left of the life, or a
-/// fault.
+/// A peer's whole run as a future, which is polled by hand. Its output is what remains of the run, or a fault.
 ///
-/// Contracts see, wherever it may be suspended, what it has done (`IsSuspended`), and of what it
-/// gives, that it is a whole life (`IsLife`).
+/// Contracts see what it has done wherever it may be suspended (`IsSuspended`). They also see that its output describes a
+/// whole run (`IsLife`).
 #[derive(Drop)]
 pub struct PeerTask<G: Gate, S: Ends> {
     running: Option<Running<G, S>>,
@@ -51,12 +50,12 @@ pub struct PeerTask<G: Gate, S: Ends> {
 }
 
 impl<G: Gate, S: Ends> PeerTask<G, S> {
-    /// A peer that has done nothing, with its router, and the words by which that chooses. The router
-    /// is new and has the assignment's neighbours, the ends were not used and have each of them, and
-    /// the rounds take less than 2^64 milliseconds.
+    /// Creates the task of a peer that has done nothing yet, with its router and the random words for the router's choices.
+    /// The router must be new and have the assignment's neighbours. There must be unused ends to and from each neighbour. All
+    /// rounds together must take less than 2^64 milliseconds.
     ///
     /// # Errors
-    /// `NoMemory`; the stop flag is set then.
+    /// `NoMemory` if memory runs out. The stop flag is then set.
     pub fn new(
         alloc: Global,
         assignment: Assignment,
@@ -98,12 +97,12 @@ impl<G: Gate, S: Ends> Future for PeerTask<G, S> {
 
     ghost gives = { λ task result. Gives S.Ends task result };
 
-    /// Takes at most 64 items and has at most 64 accepted, where a close is an item, and may stop between
-    /// any two of them. It asks to be polled again at once where the life has not ended.
+    /// Takes at most 64 items from the neighbours, and has at most 64 items accepted for them. A close counts as an item. The
+    /// poll may stop between any two items. It asks to be polled again at once if the run has not ended.
     ///
-    /// It gives what is left of the life; or `NoMemory`, with the task's stop flag set; or `Stopped` where it
-    /// found that set. After any result there is nothing to give, and it answers `Over`.
-    // It stands apart from whoever polls many tasks, who would otherwise clear the room of a whole task at each poll.
+    /// The output is what remains of the run, `NoMemory` with the task's stop flag set, or `Stopped` if the flag was found
+    /// set. After any output, each further poll answers `Over`.
+    // Not inlined: a caller that polls many tasks would otherwise clear the stack space of a whole task at each poll.
     #[inline(never)]
     fn poll(&mut self, cx: &mut Context<'_>) -> Poll<Result<FinishedTask<S>, PeerFault>>
         requires { CanPoll S.Ends self.old }
@@ -135,15 +134,15 @@ impl<G: Gate, S: Ends> Future for PeerTask<G, S> {
     }
 }
 
-/// How a life went on.
+/// How a run went on.
 #[derive(Drop)]
 struct Went {
     is_over: bool,
-    /// Evidence that the flag was looked at first, and was not set.
+    /// Evidence that the flag was checked first, and was not set.
     unset: FoundUnset,
 }
 
-/// Goes on with a life by the steps of a poll, unless the flag is set. Where there is no memory the flag is set first.
+/// Continues a run by the steps of a poll, unless the flag is set. If memory runs out, the flag is set before the answer.
 fn go_on<G: Gate, S: Ends>(
     stop: &StopFlag,
     payloads: &Mutex<Payloads>,
@@ -168,7 +167,8 @@ fn go_on<G: Gate, S: Ends>(
     }
 }
 
-/// Takes the steps of a poll, with what is known of payloads where no other thread has that. True where the life has ended.
+/// Takes the steps of a poll, and returns whether the run has ended. It uses what is known about payloads if no other
+/// thread holds that.
 fn run_knowing<G: Gate, S: Ends>(
     payloads: &Mutex<Payloads>,
     running: &mut Running<G, S>,
@@ -189,8 +189,8 @@ fn run_knowing<G: Gate, S: Ends>(
     done
 }
 
-/// Finishes a life that is over, and takes it out of its task. Where there is no memory the flag is set first.
-// It stands apart from `poll`, which would otherwise clear the room of a whole life each time.
+/// Finishes a run that is over, and takes it out of its task. If memory runs out, the flag is set before the answer.
+// Not inlined into `poll`, which would otherwise clear the stack space of a whole run each time.
 #[inline(never)]
 fn finish<G: Gate, S: Ends>(
     stop: &StopFlag,
@@ -213,8 +213,8 @@ fn finish<G: Gate, S: Ends>(
     }
 }
 
-/// Drops a life that goes no further.
-// It stands apart from `poll`, as `finish` does.
+/// Drops a run that goes no further.
+// Not inlined into `poll`: the reason is that of `finish`.
 #[inline(never)]
 fn give_up<G: Gate, S: Ends>(running: &mut Option<Running<G, S>>)
     ensures { running.new ≡ None }

@@ -1,5 +1,5 @@
-//! What tasks answer that are polled by hand, over lists and over links. A crate is proved once more with its own tests, so
-//! these stand apart from the tasks that they poll.
+//! Tests of tasks that are polled by hand, over lists and over links. A crate is proved a second time with its own tests, so
+//! these have a crate of their own.
 #![tactic(auto)]
 
 #[cfg(test)]

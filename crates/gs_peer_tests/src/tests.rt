@@ -1,4 +1,4 @@
-//! Lives of a peer with one neighbour, over lists in memory: scripts, heartbeats, streams, gathered frames and faults.
+//! Runs of a peer with one neighbour, over lists in memory: scripts, heartbeats, streams, gathered frames and faults.
 ghost use Rattle.std.specs.Prelude.{◌≡◌, IfOk, IfSome, true};
 ghost use Rattle.gs_ends.specs.Ends.{has};
 ghost use Rattle.gs_ends.specs.Lists.{joints_in_lists};
@@ -36,10 +36,10 @@ use std::random::RandomSource;
 use std::sync::{Arc, Wait};
 use std::test::*;
 
-// ---- lives
+// ---- runs
 
-/// The life of a case over lists, where one put in `every` is refused. None where it doesn't end within 10,000 polls;
-/// where it ends with a fault, the test fails.
+/// What remains of the run of a case over lists, where one put in `every` is refused. It is None if the run doesn't end within
+/// 10,000 polls. If the run ends with a fault, the test fails.
 fn lives<R>(rt: &R, case: &Case<'_>, every: u64) -> io::Result<Option<FinishedTask<ListEnds>>>
 where
     R: Wait + RandomSource + AllocGlobal,
@@ -63,7 +63,7 @@ where
     }
 }
 
-/// What is seen of a life, as text.
+/// What is seen of a run, as text.
 fn text(
     alloc: Global,
     events: &str,
@@ -73,7 +73,7 @@ fn text(
     format!(in alloc; "{events}{refused:?} {says:?}")
 }
 
-/// What came of a life: its events, the lines that it could not follow, and what it said to its neighbour.
+/// The results of a run: its events, the lines that it could not follow, and what it said to its neighbour.
 fn came(alloc: Global, other: PeerNo, life: &FinishedTask<ListEnds>) -> Result<String, AllocError>
     requires { has (joints_in_lists life.now.ends) other ≡ true }
 {
@@ -91,7 +91,7 @@ fn wanted(alloc: Global, case: &Case<'_>) -> Result<String, AllocError> {
 
 const ENDLESS: &str = "no end";
 
-/// What came of a case, where one put in `every` is refused.
+/// The results of a case, where one put in `every` is refused.
 fn came_of<R>(rt: &R, case: &Case<'_>, every: u64) -> io::Result<String>
 where
     R: Wait + RandomSource + AllocGlobal,
@@ -102,7 +102,7 @@ where
     }
 }
 
-/// Checks that what comes of each case is what it says, however often puts are refused.
+/// Checks that the results of each case are those that it lists, however often puts are refused.
 fn check<R>(rt: &R, cases: &[Case<'_>]) -> Result<(), Fail>
 where
     R: Wait + RandomSource + AllocGlobal + Abort,
@@ -147,7 +147,7 @@ fn what_is_said_in_a_round_is_one_frame(rt: HostRuntime) -> Result<(), Fail> {
     check(&rt, GATHERED)
 }
 
-/// What is reported of a case, where one put in `every` is refused.
+/// What is reported about a case, where one put in `every` is refused.
 fn reported<R>(rt: &R, case: &Case<'_>, every: u64) -> io::Result<String>
 where
     R: Wait + RandomSource + AllocGlobal,
@@ -181,7 +181,7 @@ fn two_peers_do_over_lists_what_they_do_over_links(rt: HostRuntime) -> Result<()
     Ok(())
 }
 
-/// Where a neighbour takes only one item, the life never ends.
+/// Where a neighbour takes only one item, the run never ends.
 #[test]
 fn what_is_never_accepted_keeps_a_task_pending(rt: HostRuntime) -> Result<(), Fail> {
     let case = Case {
@@ -220,7 +220,7 @@ fn a_flag_stops_a_task(rt: HostRuntime) -> Result<(), Fail> {
     Ok(())
 }
 
-/// Whether a task gives a life while someone else has its payloads.
+/// Whether a task finishes its run while someone else holds its payloads.
 fn goes_on_without_payloads<R>(rt: &R) -> io::Result<bool>
 where
     R: Wait + RandomSource + AllocGlobal,

@@ -1,4 +1,5 @@
--- The chart: which share of its subscribers each message reached within each number of rounds, and all together.
+-- The chart: the share of its subscribers that each message reached within each number of rounds, and the share for all
+-- messages together.
 use Rattle.std.specs.Prelude.{ℕ, ◌+◌, ◌-◌, ◌*◌, ◌/◌, max, nat_le, nat_lt, if◌then◌else◌, List, [], ◌∷◌, ◌++◌, codes, decimal, length, Option}
 use Rattle.std.specs.List.{flat_map}
 use Rattle.gs_reach.specs.declared.distribution.Within.{Within}
@@ -27,16 +28,17 @@ wide = 800
 abbrev pub tall : ℕ
 tall = 200
 
--- by how many rounds ticks may lie apart
+-- how many rounds may lie between two ticks
 unfoldable pub spacings : List ℕ
 spacings = 1 ∷ 2 ∷ 5 ∷ 10 ∷ 20 ∷ 50 ∷ 100 ∷ 200 ∷ 500 ∷ 1_000 ∷ 2_000 ∷ 5_000 ∷ 10_000 ∷ []
 
--- the first of these of which ten are more than a number, and 20,000 where none is
+-- the first of these that times ten is more than a number, or 20,000 where there is none
 abbrev pub first_above : ℕ → List ℕ → ℕ
 first_above n [] = 20_000
 first_above n (k ∷ ks) = if nat_lt n (10 * k) then k else first_above n ks
 
--- The axis of rounds ends after the slowest delivery, and after ten rounds at least. No more than ten ticks follow the first.
+-- The axis of rounds ends one round after the slowest delivery, and at round 10 at the earliest. At most ten ticks follow
+-- the first.
 abbrev pub axis_to : ℕ → Axis
 axis_to rounds = record { end = max 10 (rounds + 1); spacing = first_above rounds spacings }
 
@@ -44,7 +46,7 @@ axis_to rounds = record { end = max 10 (rounds + 1); spacing = first_above round
 abbrev pub across : Axis → ℕ → ℕ
 across axis round = left + (wide * round) / max 1 axis.end
 
--- how far from above `reached` of `count` subscribers lie
+-- how far from the top the share of `reached` in `count` subscribers lies
 abbrev pub up : ℕ → ℕ → ℕ
 up count reached = bottom - (tall * reached) / max 1 count
 
@@ -72,7 +74,7 @@ ticks = 0 ∷ 1 ∷ 2 ∷ 3 ∷ 4 ∷ 5 ∷ 6 ∷ 7 ∷ 8 ∷ 9 ∷ 10 ∷ []
 
 -- ---- lines
 
--- up to how many lines are drawn whole, and up to how many half as strong
+-- up to how many lines are drawn at full strength, and up to how many at half strength
 abbrev pub few_lines : ℕ
 few_lines = 8
 
@@ -104,7 +106,7 @@ whole_text axis (x ∷ xs) = line_text axis (codes "all") (x ∷ xs)
 abbrev pub missed_text : List Pair → List ℕ
 missed_text pairs = part MissedBegins ++ decimal (missed pairs) ++ part MissedOf ++ decimal (length pairs) ++ part MissedEnds
 
--- what stands above the axes, by the names of the peers that count
+-- what stands above the axes, with the names of the peers that count
 abbrev pub chart_head : Option (List ℕ) → List Pair → List ℕ
 chart_head names all = part ChartHead ++ among_text names ++ part ChartHeadEnds ++ chart_words ++ missed_text all
 
@@ -112,7 +114,7 @@ chart_head names all = part ChartHead ++ among_text names ++ part ChartHeadEnds 
 abbrev pub axes_text : Axis → List ℕ
 axes_text axis = flat_map level_text levels ++ flat_map (tick_text axis) ticks
 
--- the thick line, and on it a thin one for each message
+-- the thick line, and on top of it a thin one for each message
 abbrev pub lines_text : Axis → Courses → List ℕ
 lines_text axis c = whole_text axis c.all ++ flat_map (line_text axis (line_kind (length c.each))) c.each
 

@@ -1,4 +1,4 @@
--- How far each message on a topic came, and all of them together.
+-- How many rounds each message on a topic took to reach its subscribers, and the same for all messages together.
 use Rattle.std.specs.Prelude.{ℕ, ◌+◌, ◌∷◌, [], Bool, true, false, nat_eq, max, if◌then◌else◌, List, filter, fold, map}
 use Rattle.gs_base.specs.declared.names.Topic.{Topic}
 use Rattle.gs_base.specs.Names.{same_topic}
@@ -22,7 +22,8 @@ on_topic t messages = filter (λ (m : MessageReach). same_topic m.publication.to
 abbrev pub accepted : List MessageReach → List MessageReach
 accepted messages = filter (λ (m : MessageReach). is_accepted m.verdict) messages
 
--- The course of a message: each subscriber of it among some peers, and in how many rounds the message came to it, where it did.
+-- The course of a message: each of its subscribers among some peers, and in how many rounds the message reached it, if it
+-- did.
 abbrev pub course : Chosen → MessageReach → List Pair
 course of m = pairs_among of m.pairs
 

@@ -20,7 +20,7 @@ use Rattle.gs_picture.specs.declared.discs.Disc.{Disc}
 abbrev pub scores_about : PeerNo → List (PeerNo × ℤ) → List ℤ
 scores_about p scores = map (λ x. x.1) (filter (λ x. same_peer x.0 p) scores)
 
--- what its neighbours among some peers score a peer at the end
+-- the scores that a peer's neighbours, among some peers, give it at the end
 abbrev pub scores_of : Chosen → List (PeerNo × Finished) → PeerNo → List ℤ
 scores_of of peers p = flat_map (λ (x : PeerNo × Finished). scores_about p x.1.scores) (filter (λ (x : PeerNo × Finished). is_chosen of x.0) peers)
 
@@ -62,6 +62,6 @@ disc thresholds of peers t p = record {
   subscribed = list_any (is_joined t p) peers;
 }
 
--- a disc for each peer, by what some peers score
+-- a disc for each peer, by the scores that some peers give
 abbrev pub discs : Thresholds → Chosen → List (PeerNo × Finished) → Topic → List Disc
 discs thresholds of peers t = map (λ x. disc thresholds of peers t x.0) peers

@@ -1,4 +1,4 @@
--- Who has whom in its mesh of a topic at the end.
+-- The edges of a topic at the end. An edge shows that a peer has another in its mesh of the topic.
 use Rattle.std.specs.Prelude.{Bool, true, false, ◌&&◌, nat_lt, if◌then◌else◌, List, [], ◌∷◌}
 use Rattle.std.specs.List.{flat_map, list_any}
 use Rattle.gs_base.specs.declared.names.PeerNo.{PeerNo}

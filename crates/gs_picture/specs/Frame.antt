@@ -1,4 +1,4 @@
--- What stands round the circle and the chart.
+-- What stands around the circle and the chart.
 use Rattle.std.specs.Prelude.{ℕ, ◌*◌, max, min, nat_le, if◌then◌else◌, List, ◌++◌, decimal, fold, length}
 use Rattle.gs_base.specs.declared.names.Topic.{Topic}
 use Rattle.gs_plan.specs.declared.plan.Plan.{Plan}
@@ -38,6 +38,6 @@ title_text plan t messages =
     ++ part Messages ++ decimal messages
     ++ piece TextEnds
 
--- what stands so far below its place
+-- the beginning of a group that stands this far below its place
 abbrev pub lowered : ℕ → List ℕ
 lowered down = part GroupBegins ++ decimal down ++ part GroupPlaced

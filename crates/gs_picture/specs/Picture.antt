@@ -1,5 +1,5 @@
--- The picture of a run: who is in whose mesh of a topic at the end, how some peers score each peer, and how far each message
--- on the topic came to them.
+-- The picture of a run: the mesh edges of a topic at the end, the scores that some peers give each peer, and how many rounds
+-- each message on the topic took to reach those peers.
 use Rattle.std.specs.Prelude.{ℕ, ◌+◌, ◌*◌, List, ◌++◌, length, Option}
 use Rattle.gs_base.specs.declared.names.Topic.{Topic}
 use Rattle.gs_plan.specs.declared.plan.Plan.{Plan}
@@ -22,18 +22,18 @@ use Rattle.gs_picture.specs.Pieces.{part, style_text}
 unfoldable pub upper_text : Plan → Topic → ℕ → List ℕ
 upper_text plan t messages = opening (height + 2 * room_of plan) ++ style_text ++ title_text plan t messages
 
--- the circle, by what some peers score
+-- the circle, by the scores that some peers give
 unfoldable pub middle_text : Plan → Report → Topic → Chosen → List ℕ
 middle_text plan report t of =
     lowered (room_of plan)
     ++ circle_text plan (length plan.peers) (edges report.peers.items t) (discs plan.params.thresholds of report.peers.items t)
 
--- what stands below it, by the names of those peers
+-- what stands below the circle, with the names of those peers
 unfoldable pub lower_text : Plan → Option (List ℕ) → Courses → List ℕ
 lower_text plan names c =
     part GroupEnds ++ lowered (2 * room_of plan) ++ legend_text names ++ chart_text names c ++ part PictureEnds
 
--- the picture by what some peers score, and by how far messages came to them
+-- the picture by the scores that some peers give, and by the courses of messages to them
 abbrev pub picture_by : Plan → Report → Topic → Option (List ℕ) → Chosen → Courses → List ℕ
 picture_by plan report t names of c =
     upper_text plan t (length c.each) ++ middle_text plan report t of ++ lower_text plan names c

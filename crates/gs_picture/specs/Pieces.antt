@@ -1,4 +1,4 @@
--- The texts of a picture that depend on nothing.
+-- The fixed texts of a picture.
 use Rattle.std.specs.Prelude.{ℕ, ◌++◌, List, codes}
 use Rattle.gs_picture.specs.declared.pieces.Piece.{Piece}
 use Rattle.gs_picture.specs.declared.pieces.Piece.TheVariants.{EdgeBegins, EdgeFrom, EdgeTo, PathEnds, DiscBegins, MarkPlace, DiscMark, DiscEnds, NameBegins, NameTurn, NameText, TextEnds, WordsAcross, WordsDown, TagEnds, LegendHead, LegendHeadEnds}
@@ -25,7 +25,7 @@ piece TagEnds = codes "\">"
 piece LegendHead = codes "<text class=\"head\" x=\"60\" y=\"590\">Each disc is a peer, by the lowest score that a neighbour"
 piece LegendHeadEnds = codes " gives it at the end</text>\n"
 
--- round it, and in the chart
+-- around the circle, and in the chart
 unfoldable pub part : Part → List ℕ
 part Opening = codes "<svg xmlns=\"http://www.w3.org/2000/svg\" width=\"920\" height=\""
 part ViewBox = codes "\" viewBox=\"0 0 920 "
@@ -53,7 +53,7 @@ part CourseBegins = codes "<path class=\"course "
 part CourseLine = codes "\" d=\"M60 940"
 part CourseEnds = codes "H860\"/>\n"
 
--- the rest of the legend, what stands beside the axes of the chart, and the style
+-- the rest of the legend, the words at the axes of the chart, and the style
 unfoldable pub legend_words : List ℕ
 legend_words =
     codes "<g class=\"disc off\" transform=\"translate(69 660)\"><circle r=\"9\"/></g><text x=\"85\" y=\"664\">"

@@ -17,7 +17,7 @@ centre_x = 460
 abbrev pub centre_y : ℕ
 centre_y = 310
 
--- up to this many peers have their names in a row, and more have them along the radius
+-- names stand level where there are up to this many peers, and along the radius where there are more
 abbrev pub most_level : ℕ
 most_level = 16
 
@@ -33,11 +33,11 @@ sines =
     ∷ 9945 ∷ 9962 ∷ 9976 ∷ 9986 ∷ 9994 ∷ 9998 ∷ 10_000
     ∷ []
 
--- the sine of this many degrees, and 0 above 90
+-- the sine of this many degrees in ten-thousandths, and 0 above 90
 abbrev pub sine : ℕ → ℕ
 sine degrees = unwrap_or (slice_get sines degrees) 0
 
--- how far one goes across on this many degrees
+-- the radius times the sine of this many degrees, rounded down
 abbrev pub leg : ℕ → ℕ → ℕ
 leg radius degrees = (radius * sine degrees) / 10_000
 

@@ -1,4 +1,5 @@
-//! The chart: which share of its subscribers each message reached within each number of rounds, and all together.
+//! The chart: the share of its subscribers that each message reached within each number of rounds, and the share for all
+//! messages together.
 ghost use Rattle.std.specs.Prelude.{◌≡◌, ◌<◌, ◌*◌, ◌^◌, ◌++◌, length, OnOk};
 ghost use Rattle.std.specs.List.{flat_map};
 ghost use Rattle.gs_figure_sheets.specs.Choices.{spelled};
@@ -15,18 +16,18 @@ use std::alloc::{AllocError, Global};
 /// The axis of rounds.
 #[derive(Clone, Copy, Debug, PartialEq, Eq)]
 struct Axis {
-    /// The rounds at its end.
+    /// The round at its end.
     end: u128,
     /// How many rounds lie between two ticks.
     spacing: u64,
 }
 
-/// By how many rounds ticks may lie apart.
+/// How many rounds may lie between two ticks.
 static SPACINGS: [u64; 13] = [
     1, 2, 5, 10, 20, 50, 100, 200, 500, 1_000, 2_000, 5_000, 10_000,
 ];
 
-/// Adds the chart of how far messages came, by the names of the peers that count.
+/// Adds the chart of how messages spread, with the names of the peers that count.
 #[tactic(auto, unfolding(crate::specs::Chart::chart_text))]
 pub(crate) fn push_chart(
     alloc: Global,
@@ -42,7 +43,7 @@ pub(crate) fn push_chart(
     push_lines(alloc, text, axis, courses)
 }
 
-/// Adds what stands above the axes and beside them.
+/// Adds what stands above the axes and next to them.
 fn push_head(
     alloc: Global,
     text: &mut Vec<u8>,
@@ -80,7 +81,7 @@ fn axis_to(rounds: u64) -> Axis
     }
 }
 
-/// The first of these of which ten are more than a number, and 20,000 where none is.
+/// The first of these that times ten is more than a number, or 20,000 where there is none.
 fn first_above(number: u64, spacings: &[u64]) -> u64
     ensures { result ≡ first_above number spacings.now }
 {
@@ -189,7 +190,7 @@ fn push_tick_at(
     push_piece(text, Piece::TextEnds)
 }
 
-/// Adds a thick line for all pairs together, and on it a thin one for each course.
+/// Adds a thick line for all pairs together, and on top of it a thin one for each course.
 fn push_lines(
     alloc: Global,
     text: &mut Vec<u8>,
@@ -287,7 +288,7 @@ fn across(axis: Axis, round: u128) -> u128
     60 + 800 * round / axis.end.max(1)
 }
 
-/// How far from above `reached` of `count` subscribers lie.
+/// How far from the top the share of `reached` in `count` subscribers lies.
 fn up(count: usize, reached: u64) -> u128
     ensures { result ≡ up count reached }
 {

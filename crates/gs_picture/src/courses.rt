@@ -1,4 +1,4 @@
-//! How far each message on a topic came, and all of them together.
+//! How many rounds each message on a topic took to reach its subscribers, and the same for all messages together.
 ghost use Rattle.std.specs.Prelude.{◌≡◌, ◌<◌, ◌^◌, [], ◌∷◌, ◌++◌, fold, IfOk, max, OnOk, List, option_to_list};
 ghost use Rattle.gs_reach.specs.Chosen.{is_accepted};
 ghost use Rattle.gs_reach.specs.Messages.{messages};
@@ -13,16 +13,16 @@ use gs_reach::{Chosen, MessageReach, Pair, Within, accepted_pairs, messages_of, 
 use gs_report::Report;
 use std::alloc::{AllocError, Global};
 
-/// How far messages came.
+/// How many rounds messages took to reach their subscribers.
 #[derive(Drop)]
 pub(crate) struct Courses {
-    /// Each message that is drawn: its subscribers that count, and in how many rounds it came to each.
+    /// For each message that is drawn: its subscribers that count, and in how many rounds it reached each, if it did.
     pub(crate) each: Seq<Seq<Pair>>,
-    /// Those of all of them together.
+    /// The pairs of all these messages together.
     pub(crate) all: Seq<Pair>,
 }
 
-/// How far the messages on a topic came to some peers.
+/// How many rounds the messages on a topic took to reach some peers.
 pub(crate) fn courses_of(
     alloc: Global,
     plan: &Plan,

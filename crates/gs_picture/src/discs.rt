@@ -12,7 +12,7 @@ use gs_report::Finished;
 use gs_rules::{Event, StoredEntry};
 use std::alloc::{AllocError, Global};
 
-/// How a peer is scored by the one that scores it lowest.
+/// The class of the lowest score that a peer is given.
 #[derive(Clone, Copy, Debug, PartialEq, Eq)]
 pub(crate) enum Class {
     /// 0 or more.
@@ -37,7 +37,7 @@ pub(crate) struct Disc {
     pub subscribed: bool,
 }
 
-/// A disc for each peer, by what some peers score.
+/// A disc for each peer, by the scores that some peers give.
 pub(crate) fn discs(
     alloc: Global,
     thresholds: &Thresholds,

@@ -1,4 +1,4 @@
-//! Who has whom in its mesh of a topic at the end.
+//! The edges of a topic at the end. An edge shows that a peer has another in its mesh of the topic.
 ghost use Rattle.std.specs.Prelude.{◌≡◌, ◌++◌, IfOk, OnOk};
 ghost use Rattle.std.specs.List.{flat_map, list_any};
 ghost use Rattle.gs_picture.specs.Edges.{any_has_in_mesh, edge_between, edge_to, edges, has_in_mesh, is_member};

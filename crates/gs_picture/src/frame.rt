@@ -1,4 +1,4 @@
-//! What stands round the circle and the chart.
+//! What stands around the circle and the chart.
 ghost use Rattle.std.specs.Prelude.{◌≡◌, ◌++◌, OnOk};
 ghost use Rattle.gs_picture.specs.Frame.{longest_name, lowered, opening, room, room_of, title_text};
 
@@ -35,7 +35,7 @@ fn longest_name(peers: &[PlannedPeer]) -> usize
     so_far
 }
 
-/// Adds what a picture of a height begins with.
+/// Adds the beginning of a picture of this height.
 pub(crate) fn push_opening(alloc: Global, text: &mut Vec<u8>, tall: u128) -> Result<(), AllocError>
     ensures { OnOk result (text.new.items ≡ text.old.items ++ opening tall) }
 {
@@ -67,7 +67,7 @@ pub(crate) fn push_title(
     push_piece(text, Piece::TextEnds)
 }
 
-/// Begins what stands so far below its place.
+/// Begins a group that stands this far below its place.
 pub(crate) fn push_lowered(alloc: Global, text: &mut Vec<u8>, down: u128) -> Result<(), AllocError>
     ensures { OnOk result (text.new.items ≡ text.old.items ++ lowered down) }
 {

@@ -1,4 +1,5 @@
-//! A picture of a run: who is in whose mesh of a topic, how some peers score each peer, and how far each message came to them.
+//! A picture of a run: the mesh edges of a topic, the scores that some peers give each peer, and how many rounds each
+//! message took to reach those peers.
 #![tactic(auto)]
 
 mod chart;

@@ -18,11 +18,11 @@ use gs_reach::Chosen;
 use gs_report::Report;
 use std::alloc::{AllocError, Global};
 
-/// The picture of a run of a plan, as SVG: who is in whose mesh of a topic at the end, how some peers score each peer, and how
-/// far each message on the topic came to those peers.
+/// Returns the picture of a run of a plan, as SVG. It shows the mesh edges of the topic at the end, and how the chosen peers
+/// score each peer. It also shows how many rounds each message on the topic took to reach those peers.
 ///
 /// # Errors
-/// `AllocError` where there was no memory for it.
+/// `AllocError` if it runs out of memory.
 pub fn picture_svg(
     alloc: Global,
     plan: &Plan,
@@ -58,7 +58,7 @@ fn push_upper(
     push_title(alloc, text, plan, topic, messages)
 }
 
-/// Adds the circle of a run, by what some peers score.
+/// Adds the circle of a run, by the scores that some peers give.
 #[tactic(auto, unfolding(crate::specs::Picture::middle_text))]
 fn push_middle(
     alloc: Global,
@@ -77,7 +77,7 @@ fn push_middle(
     push_circle(alloc, text, plan, &edges, &discs)
 }
 
-/// Adds what stands below it, by the names of those peers.
+/// Adds what stands below the circle, with the names of those peers.
 #[tactic(auto, unfolding(crate::specs::Picture::lower_text))]
 fn push_lower(
     alloc: Global,

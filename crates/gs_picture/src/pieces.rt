@@ -1,4 +1,4 @@
-//! The texts of a picture that depend on nothing.
+//! The fixed texts of a picture.
 ghost use Rattle.std.specs.Prelude.{◌≡◌, ◌++◌, OnOk};
 ghost use Rattle.gs_picture.specs.Pieces.{chart_words, legend_words, part, piece, style_text};
 
@@ -91,7 +91,7 @@ pub(crate) enum Piece {
     LegendHeadEnds,
 }
 
-/// A text round the circle, or in the chart.
+/// A text around the circle, or in the chart.
 #[derive(Clone, Copy, Debug, PartialEq, Eq)]
 pub(crate) enum Part {
     Opening,
@@ -188,14 +188,14 @@ pub(crate) fn push_piece(text: &mut Vec<u8>, one: Piece) -> Result<(), AllocErro
     push(text, piece_text(one))
 }
 
-/// Adds a text of what stands round the circle.
+/// Adds a text that stands around the circle, or in the chart.
 pub(crate) fn push_part(text: &mut Vec<u8>, one: Part) -> Result<(), AllocError>
     ensures { OnOk result (text.new.items ≡ text.old.items ++ part one) }
 {
     push(text, text_of(one))
 }
 
-/// Adds the legend but for its head and the classes.
+/// Adds the legend except its head and the classes.
 #[tactic(auto, unfolding(crate::specs::Pieces::legend_words))]
 pub(crate) fn push_legend_words(text: &mut Vec<u8>) -> Result<(), AllocError>
     ensures { OnOk result (text.new.items ≡ text.old.items ++ legend_words) }
@@ -203,7 +203,7 @@ pub(crate) fn push_legend_words(text: &mut Vec<u8>) -> Result<(), AllocError>
     push(text, LEGEND_WORDS)
 }
 
-/// Adds what stands beside the axes of the chart.
+/// Adds the words at the axes of the chart.
 #[tactic(auto, unfolding(crate::specs::Pieces::chart_words))]
 pub(crate) fn push_chart_words(text: &mut Vec<u8>) -> Result<(), AllocError>
     ensures { OnOk result (text.new.items ≡ text.old.items ++ chart_words) }

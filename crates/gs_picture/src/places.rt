@@ -7,10 +7,10 @@ use gs_base::PeerNo;
 /// How far discs are from the centre of the circle.
 pub(crate) const DISC_RADIUS: u16 = 220;
 
-/// How far names are from it.
+/// How far names are from the centre of the circle.
 pub(crate) const LABEL_RADIUS: u16 = 238;
 
-/// Up to this many peers have their names in a row, and more have them along the radius.
+/// Names stand level where there are up to this many peers, and along the radius where there are more.
 pub(crate) const MOST_LEVEL: usize = 16;
 
 /// A place in the picture: its distance from the left and from above.
@@ -48,7 +48,7 @@ fn sine_in(table: &[u16], degrees: u64) -> u16
     }
 }
 
-/// How far one goes across on this many degrees.
+/// The radius times the sine of this many degrees, rounded down.
 fn leg(radius: u16, degrees: u64) -> u64
     ensures { result ≡ leg radius degrees }
 {

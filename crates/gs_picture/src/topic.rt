@@ -6,7 +6,8 @@ ghost use Rattle.gs_picture.specs.Topics.{first_topic, subscribes_to};
 use gs_base::Topic;
 use gs_plan::{Act, Line};
 
-/// The first topic that the lines of a script subscribe to, in file order. None where they subscribe to none.
+/// Returns the first topic that the lines of a script subscribe to, in file order. Returns None where they subscribe to
+/// none.
 pub fn first_topic(script: &[Line]) -> Option<&Topic>
     ensures { option_copied result ≡ first_topic script.now }
 {

@@ -1,4 +1,4 @@
--- Who is joined in a plan, the words for what a peer is to do, and what is known of every plan that was read.
+-- Which peers are joined in a plan, the words for what a peer is to do, and what holds for every plan that was read.
 use Rattle.std.specs.Prelude.{◌≡◌, ◌≤◌, ◌<◌, ◌≤ℤ◌, ◌%◌, ◌^◌, ◌&&◌, ◌||◌, ◌==◌, ℕ, nat_eq, ℤ, pos, neg_ℤ, Bool, true, false, codes, List, length, All, AllPairs, Ok, Option, Some, None, IfSome}
 use Rattle.std.specs.List.{list_any}
 use Rattle.std.specs.Cmp.Lexicographic.{pointwise}
@@ -40,17 +40,17 @@ most_workers = 16
 abbrev pub highest_capacity : ℕ
 highest_capacity = 1_024
 
--- the most bytes that a line puts on a link as they are
+-- the most bytes that a line puts on a link unchanged
 abbrev pub longest_raw : ℕ
 longest_raw = 2_097_152
 
--- in millionths: the lowest score is as far below 0
+-- in millionths; the lowest score is its negative
 abbrev pub highest_app_score : ℤ
 highest_app_score = pos 1_000_000_000
 
 -- ---- dials
 
--- a dial joins two peers, whichever of them it is of
+-- a dial joins two peers, whichever of the two dials
 abbrev pub joins : PeerNo → PeerNo → Dial → Bool
 joins p q dial = (same_peer dial.from p && same_peer dial.to q) || (same_peer dial.from q && same_peer dial.to p)
 
@@ -62,17 +62,17 @@ are_joined dials p q = list_any (joins p q) dials
 abbrev pub join_the_same : Dial → Dial → Bool
 join_the_same x y = joins x.from x.to y
 
--- ---- what a plan speaks of
+-- ---- what a plan refers to
 
 -- it is the number of one of these peers
 abbrev pub IsOneOf : List PlannedPeer → PeerNo → Type 0
 IsOneOf peers p = p.0 < length peers
 
--- two scores are what the same peer thinks of the same neighbour
+-- two scores are of the same peer for the same neighbour
 abbrev pub are_of_the_same : App → App → Bool
 are_of_the_same x y = (x.peer.0 == y.peer.0) && (x.about.0 == y.about.0)
 
--- two agreements name the same neighbour of the same peer
+-- two agreements are of the same peer with the same neighbour
 abbrev pub are_one_pair : Explicit → Explicit → Bool
 are_one_pair x y = (x.peer.0 == y.peer.0) && (x.about.0 == y.about.0)
 
@@ -80,7 +80,7 @@ are_one_pair x y = (x.peer.0 == y.peer.0) && (x.about.0 == y.about.0)
 abbrev pub IsAppScore : ℤ → Type 0
 IsAppScore z = (neg_ℤ highest_app_score ≤ℤ z) × (z ≤ℤ highest_app_score)
 
--- the topic that something is done on, if it is on one
+-- the topic of what is done, where it has one
 abbrev pub topic_of : Act → Option Topic
 topic_of (Subscribe topic) = Some topic
 topic_of (Unsubscribe topic) = Some topic
@@ -88,7 +88,7 @@ topic_of (Publish topic payload) = Some topic
 topic_of (Raw to bytes) = None
 topic_of (HangUp to) = None
 
--- the neighbour to whose link something is done, if it is done to a link
+-- the neighbour whose link it is done to, where there is one
 abbrev pub neighbour_of : Act → Option PeerNo
 neighbour_of (Subscribe topic) = None
 neighbour_of (Unsubscribe topic) = None
@@ -96,7 +96,7 @@ neighbour_of (Publish topic payload) = None
 neighbour_of (Raw to bytes) = Some to
 neighbour_of (HangUp to) = Some to
 
--- the bytes that are put on a link as they are, if any are
+-- the bytes that are put on a link unchanged, where there are some
 abbrev pub raw_of : Act → Option (List ℕ)
 raw_of (Subscribe topic) = None
 raw_of (Unsubscribe topic) = None
@@ -107,7 +107,7 @@ raw_of (HangUp to) = None
 abbrev pub have_one_name : PlannedPeer → PlannedPeer → Bool
 have_one_name x y = pointwise nat_eq x.name y.name
 
--- it is one of the topics that have parameters
+-- says whether it is one of the topics that have parameters
 abbrev pub has_topic : List (Topic × TopicParams) → Topic → Bool
 has_topic topics topic = list_any (λ (known : Topic × TopicParams). same_topic known.0 topic) topics
 
@@ -123,9 +123,9 @@ what_word (HangUp to) = codes "hang_up"
 
 -- ---- plans
 
--- What is known of every plan that was read.
+-- What holds for every plan that was read.
 pub record IsInRange (plan : Plan) : Type 0 where
-  -- how long, how many, and from where random words begin
+  -- numbers and lengths are in range
   pub some_rounds : 1 ≤ plan.rounds
   pub rounds : plan.rounds ≤ most_rounds
   pub some_time : 1 ≤ plan.round_ms
@@ -139,7 +139,7 @@ pub record IsInRange (plan : Plan) : Type 0 where
   pub peers : length plan.peers ≤ most_peers
   pub some_topics : 1 ≤ length plan.params.topics
   pub topics : length plan.params.topics ≤ most_planned_topics
-  -- each peer and each topic has a name of its own
+  -- each peer has its own name, and so has each topic
   pub names_differ : AllPairs (λ x y. have_one_name x y ≡ false) plan.peers
   pub topics_differ : AllPairs (λ (x y : Topic × TopicParams). same_topic x.0 y.0 ≡ false) plan.params.topics
   -- its parameters passed their checks, and heartbeats and decays take whole rounds
@@ -151,17 +151,18 @@ pub record IsInRange (plan : Plan) : Type 0 where
   pub dials_to : All (λ (dial : Dial). IsOneOf plan.peers dial.to) plan.dials
   pub dials_to_others : All (λ (dial : Dial). same_peer dial.from dial.to ≡ false) plan.dials
   pub dials_differ : AllPairs (λ x y. join_the_same y x ≡ false) plan.dials
-  -- an application speaks of a neighbour of its peer, and once of each
+  -- each score is of a peer of the plan for a neighbour of it, and no other score is of the same two
   pub apps_of : All (λ (app : App). IsOneOf plan.peers app.peer) plan.apps
   pub apps_about : All (λ (app : App). are_joined plan.dials app.peer app.about ≡ true) plan.apps
   pub app_values : All (λ (app : App). IsAppScore app.value) plan.apps
   pub apps_differ : AllPairs (λ x y. are_of_the_same y x ≡ false) plan.apps
-  -- a peering agreement is with a neighbour of its peer, and stands once
+  -- each peering agreement is of a peer of the plan with a neighbour of it, and no other agreement is of the same two
   pub explicit_of : All (λ (agreement : Explicit). IsOneOf plan.peers agreement.peer) plan.explicit
   pub explicit_about :
       All (λ (agreement : Explicit). are_joined plan.dials agreement.peer agreement.about ≡ true) plan.explicit
   pub explicit_differ : AllPairs (λ x y. are_one_pair y x ≡ false) plan.explicit
-  -- a line of the script is of a peer of the plan, in one of its rounds: on one of its topics, or to a neighbour of the peer
+  -- Each line of the script is for a peer of the plan, in one of its rounds. Its topic is one of the plan. Its neighbour is
+  -- one of the peer.
   pub lines_of : All (λ (line : Line). IsOneOf plan.peers line.peer) plan.script
   pub lines_at : All (λ (line : Line). line.at ≤ plan.rounds) plan.script
   pub lines_on

@@ -1,4 +1,4 @@
-//! What is simulated: the peers of a run, who dials whom, and what they are to do.
+//! What is simulated: the peers of a run, the dials between them, and what the peers are to do.
 #![tactic(auto)]
 
 mod plan;

@@ -6,27 +6,27 @@ use gs_base::{ExactClone, PeerNo, Seq, Text, Topic, clone_of};
 use gs_params::Params;
 use std::alloc::AllocError;
 
-/// How many milliseconds a round lasts at most.
+/// The most milliseconds of a round.
 pub const LONGEST_ROUND: u64 = 60_000;
 
-/// The highest number that the last round may have.
+/// The highest number of the last round.
 pub const MOST_ROUNDS: u64 = 100_000;
 
-/// How many peers there are at most.
+/// The most peers of a plan.
 pub const MOST_PEERS: usize = 64;
 
-/// How many bytes a line of the script puts on a link as they are, at most.
+/// The most bytes that a line of the script puts on a link unchanged.
 pub const LONGEST_RAW: usize = 2_097_152;
 
-/// The highest score that an application gives, in millionths. The lowest is as far below 0.
+/// The highest score that an application gives, in millionths. The lowest is its negative.
 pub const HIGHEST_APP_SCORE: i64 = 1_000_000_000;
 
-/// What is simulated. Of every plan that was read `IsInRange` is known.
+/// What is simulated. Every plan that was read satisfies `IsInRange`.
 #[derive(Debug, Drop, PartialEq, Eq)]
 pub struct Plan {
     /// The length of a round in milliseconds: 1 to 60,000.
     pub round_ms: u64,
-    /// The last round, where the first is 0: 1 to 100,000.
+    /// The number of the last round, where the first is 0: 1 to 100,000.
     pub rounds: u64,
     /// How many workers run the peers: 1 to 16.
     pub workers: u64,
@@ -38,28 +38,28 @@ pub struct Plan {
     pub params: Params,
     /// The peers in file order: 1 to 64, with different names. A peer's number is its index.
     pub peers: Seq<PlannedPeer>,
-    /// Who dials whom, in file order: no peer itself, and each two peers at most once.
+    /// The dials in file order. No peer dials itself, and any two peers have at most one dial.
     pub dials: Seq<Dial>,
-    /// What the application thinks of a neighbour, in file order: each at most once.
+    /// The scores that applications give neighbours, in file order. A peer's application scores a neighbour at most once.
     pub apps: Seq<App>,
-    /// Which neighbours are explicit, in file order: each pair at most once.
+    /// The peering agreements, in file order. Each peer has at most one with the same neighbour.
     pub explicit: Seq<Explicit>,
     /// What the peers are to do, in file order.
     pub script: Seq<Line>,
 }
 
-/// A peer of a plan, whose number is its place among the peers.
+/// A peer of a plan. Its number is its index among the peers.
 #[derive(Debug, Drop, PartialEq, Eq)]
 pub struct PlannedPeer {
     /// Its name: 1 to 32 of `a` to `z`, `0` to `9`, `_` and `-`.
     pub name: Text,
     /// Where it is: neighbours at one address count against each other (P6).
     pub address: Text,
-    /// The first of its random words. Those of its generator come after them (`SeededWords`).
+    /// Its first random words. Those of its generator come after them (`SeededWords`).
     pub words: Seq<u32>,
 }
 
-/// A connection of two peers, which the first of them dials: a link each way.
+/// A connection of two peers, with a link in each direction. The first of the two dials.
 #[derive(Clone, Copy, Debug, PartialEq, Eq)]
 pub struct Dial {
     pub from: PeerNo,
@@ -83,14 +83,14 @@ pub struct Explicit {
     pub about: PeerNo,
 }
 
-/// Something that a peer is to do.
+/// What a peer is to do.
 #[derive(Debug, Drop, PartialEq, Eq)]
 pub struct Line {
     /// The round in which it is done: 0 to the last.
     pub at: u64,
     /// The peer that is to do it.
     pub peer: PeerNo,
-    /// What it is to do. A peer that can't do it notes why, and goes on.
+    /// What it is to do. A peer that can't do it notes why, and continues.
     pub what: Act,
 }
 
@@ -110,7 +110,7 @@ impl ExactClone for Line {
     ghost exact = { λ source copy same. same };
 }
 
-/// What a line of the script may ask of a peer.
+/// What a line of the script may tell a peer to do.
 #[derive(Debug, Drop, PartialEq, Eq)]
 pub enum Act {
     /// Subscribe to a topic (gossipsub v1.0, "Topic Membership", JOIN).
@@ -119,7 +119,7 @@ pub enum Act {
     Unsubscribe(Topic),
     /// Publish a payload on a topic (gossipsub v1.0, "Message Processing").
     Publish(Topic, Bytes),
-    /// Put these bytes on the link to a neighbour as they are, whether they spell an RPC or not: at most 2,097,152.
+    /// Put these bytes, at most 2,097,152, on the link to a neighbour unchanged. They need not spell an RPC.
     Raw(PeerNo, Bytes),
     /// Close the link to a neighbour.
     HangUp(PeerNo),
@@ -143,7 +143,7 @@ impl ExactClone for Act {
     ghost exact = { λ source copy same. same };
 }
 
-/// Whether one of two peers dials the other.
+/// Says whether one of two peers dials the other.
 pub fn are_joined(dials: &[Dial], one: PeerNo, other: PeerNo) -> bool
     ensures { result ≡ are_joined dials.now one other }
 {
@@ -156,7 +156,7 @@ fn joins(one: PeerNo, other: PeerNo, dial: &Dial) -> bool
     (dial.from == one && dial.to == other) || (dial.from == other && dial.to == one)
 }
 
-/// The limits of plans are those of the definitions.
+/// The limits of plans in the code are those of the definitions.
 pub fn limits_of_plans()
     ensures round { LONGEST_ROUND ≡ longest_round }
     ensures rounds { MOST_ROUNDS ≡ most_rounds }

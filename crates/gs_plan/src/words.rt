@@ -4,22 +4,22 @@ ghost use Rattle.gs_plan.specs.Plans.{what_word};
 
 use crate::plan::Act;
 
-/// The word that asks a peer to subscribe.
+/// The word for a line that tells a peer to subscribe.
 pub const SUBSCRIBE: &str = "subscribe";
 
-/// The word that asks a peer to leave a topic.
+/// The word for a line that tells a peer to leave a topic.
 pub const UNSUBSCRIBE: &str = "unsubscribe";
 
-/// The word that asks a peer to publish.
+/// The word for a line that tells a peer to publish.
 pub const PUBLISH: &str = "publish";
 
-/// The word that asks a peer to put bytes on a link as they are.
+/// The word for a line that tells a peer to put bytes on a link unchanged.
 pub const RAW: &str = "raw";
 
-/// The word that asks a peer to close the link to a neighbour.
+/// The word for a line that tells a peer to close the link to a neighbour.
 pub const HANG_UP: &str = "hang_up";
 
-/// The word for what a peer is to do.
+/// Returns the word for what a peer is to do.
 pub fn what_word(what: &Act) -> &'static str
     ensures { result.now ≡ what_word what.now }
 {

@@ -15,11 +15,11 @@ abbrev pub whole : ℕ → Said → Bool
 whole zero w = true
 whole (suc r) w = whole r w && ends r (after r w)
 
--- a close stands in what there is to hear in a round
+-- a close stands in what is heard in a round
 abbrev pub closes_in : ℕ → Said → Bool
 closes_in zero w = false
 closes_in (suc r) w = closes (said_in r w)
 
--- a close, where there is one
+-- a close where `closed` is true, and else nothing
 abbrev pub close_if : Bool → Said
 close_if closed = if closed then Close ∷ [] else []

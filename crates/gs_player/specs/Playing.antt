@@ -1,4 +1,4 @@
--- What a router that is called one thing after the other has done.
+-- What a router has done after calls, one after the other.
 use Rattle.std.specs.Prelude.{◌≡◌, ◌≤◌, false, true, ℕ, List, [], ◌∷◌, ◌++◌, map, filter}
 use Rattle.std.specs.List.{AllByRecursion}
 use Rattle.gs_base.specs.declared.names.Millis.{Millis}
@@ -20,7 +20,7 @@ pub record IsRunning (now : Millis) (v : RouterView) : Type 0 where
   pub time : last_moment v.trace ≤ now.0
   pub legal : Legal v.peer v.trace
 
--- The router has done these things in order, at one moment, by choices that lead from s to t, and these were refused.
+-- The router has done `todos` in order, at one moment. Its choices lead from the state s to t. The lines `refused` were refused.
 pub record Runs (m : Mode) (now : Millis) (todos : List Todo)
     (old : RouterView) (s : m.State) (new : RouterView) (t : m.State) (refused : List RefusedLine) : Type 0 where
   pub does : Does old.peer now todos old.trace new.trace refused
@@ -32,7 +32,7 @@ pub record Runs (m : Mode) (now : Millis) (todos : List Todo)
 abbrev pub RpcsFit : List Rpc → Type 0
 RpcsFit rpcs = AllByRecursion (λ rpc. codec.fits rpc ≡ true) rpcs
 
--- what there is to do of these lines in a round
+-- what these lines give to do in a round
 abbrev pub own_lines : ℕ → List (ℕ × Line) → List Todo
 own_lines r lines = map obey (filter (is_at r) lines)
 

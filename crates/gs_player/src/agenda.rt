@@ -8,11 +8,11 @@ use std::alloc::{AllocError, Global};
 use std::marker::Model;
 use std::snapshot::Snapshot;
 
-/// A peer's lines of a script, each with its place there, in file order; contracts see that list. They
-/// are kept by the rounds in which they are followed.
+/// A peer's lines of a script, each with its place in the script, in file order. Contracts see that list. The lines are kept
+/// by the rounds in which they are followed.
 #[derive(Drop)]
 pub struct Agenda {
-    /// By the number of the round, and there in file order.
+    /// The lines by the number of the round, and in a round in file order.
     rounds: IndexMap<u64, Vec<(usize, Line)>>,
     /// All of them, for proofs only.
     all: Snapshot<Vec<(usize, Line)>>,
@@ -32,10 +32,10 @@ impl Model for Agenda {
 }
 
 impl Agenda {
-    /// The agenda of these lines: those of one round are followed in this order.
+    /// Creates the agenda of these lines. The lines of one round are followed in this order.
     ///
     /// # Errors
-    /// `AllocError` where there was no memory.
+    /// `AllocError` if memory runs out.
     pub fn of(alloc: Global, lines: Vec<(usize, Line)>) -> Result<Agenda, AllocError>
         ensures { IfOk result (λ agenda. agenda ≡ lines.items) }
     {
@@ -47,7 +47,7 @@ impl Agenda {
         Ok(Agenda { rounds, all })
     }
 
-    /// The lines that are followed in a round, in file order.
+    /// Returns the lines that are followed in a round, in file order.
     pub fn at(&self, round: u64) -> &[(usize, Line)]
         ensures { result.now ≡ filter (is_at round) self.now }
     {

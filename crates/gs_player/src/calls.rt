@@ -1,4 +1,4 @@
-//! How a router does what there is to do in a round but for what is heard.
+//! How a router does what there is to do in a round, except for what is heard.
 ghost use Rattle.std.specs.Prelude.{◌≡◌, [], ◌∷◌, ◌++◌, OnOk, IfOk, List, Some, map};
 ghost use Rattle.std.specs.Result.{IsOk};
 ghost use Rattle.gs_params.specs.Seeding.{seeded_after, seeded_word};
@@ -15,7 +15,7 @@ use gs_router::{Router, RouterFault};
 use gs_rules::RefusedLine;
 use std::alloc::AllocError;
 
-/// Follows these lines, in order.
+/// Follows these lines, in order, and adds those that are refused to `refused`.
 pub fn follow_all(
     router: &mut Router,
     words: &mut SeededWords,
@@ -117,7 +117,7 @@ fn beat_if_due(
     Ok(())
 }
 
-/// Whether something with this period in milliseconds is due in a round at this moment: never in the first one.
+/// Whether something with this period in milliseconds is due in a round at this moment. Nothing is due in the first round.
 fn is_due(every: u64, round: u64, now: Millis) -> bool
     ensures { result ≡ is_due every round now }
 {
@@ -127,7 +127,7 @@ fn is_due(every: u64, round: u64, now: Millis) -> bool
     now.0.is_multiple_of(every)
 }
 
-/// A call that fails only when memory runs out.
+/// Turns the answer of a call that is never refused into one that fails only if memory runs out.
 pub fn never_refused(told: Result<(), RouterFault>) -> Result<(), AllocError>
     ensures { OnOk result (IsOk told) }
 {

@@ -1,23 +1,23 @@
--- How a program ends whose arguments ask for nothing that there is, or could not be read.
+-- How a program ends when its arguments are wrong, or could not be read.
 use Rattle.std.specs.Prelude.{◌≡◌, ℕ, List, Option, codes}
 use Rattle.std.specs.Io.KnownBytes.{Keeps}
 use Rattle.gs_streams.specs.Streams.{AppendsFront}
 use Rattle.gs_program.specs.declared.program.ExitStatus.TheVariants.{RunRefused}
 use Rattle.gs_program.specs.Program.{status_of}
 
--- the status for wrong arguments, as sysexits.h has it (EX_USAGE)
+-- the status for wrong arguments, as in sysexits.h (EX_USAGE)
 abbrev pub wrong_arguments : ℕ
 wrong_arguments = 64
 
--- what is said where there was no memory for them, as of a run
+-- the line when out of memory for the arguments, which is the one for a run
 abbrev pub no_memory : List ℕ
 no_memory = codes "run refused: 24\n"
 
--- the status then, which is that of a refused run
+-- the status in that case, which is that of a refused run
 abbrev pub refused : ℕ
 refused = status_of RunRefused
 
--- this line is on errors, or a front of it, and this is the status
+-- this line is on errors, or a front of it, and the status is the wanted one
 pub record IsRefusedSo (line : List ℕ) (wanted status : ℕ) (errors errors' : Option (List ℕ)) : Type 0 where
   pub said : AppendsFront errors errors' line
   pub status_is : status ≡ wanted

@@ -1,4 +1,4 @@
--- What comes of the reading of an input and of the printing of a text. Each way in which these ended has its own end of the
+-- What results from the reading of an input, and from the printing of a text. Each of their outcomes has its own end of the
 -- program.
 use Rattle.std.specs.Prelude.{◌≡◌, ℕ, List, codes, Option, Some, None, Result, Ok, Err}
 use Rattle.gs_plan.specs.declared.plan.Plan.{Plan}
@@ -16,17 +16,17 @@ use Rattle.gs_program.specs.declared.printer.PrintFault.{PrintFault}
 use Rattle.gs_program.specs.declared.printer.PrintFault.TheVariants as prints
 use Rattle.gs_program.specs.Program.{TellsFault, TellsRefusal}
 
--- errors held the first and then the second
+-- errors held the first text before, and the second after
 
 -- ---- readings
 
--- Of a scenario that was read as a plan, or refused: the plan, and nothing more on errors, or the end of a refused scenario,
--- and the line of that refusal on errors.
+-- How the program goes on after a scenario was read as a plan, or refused. With a plan, nothing more is on errors. A refused
+-- scenario ends the program as such, and the line of its refusal is on errors.
 abbrev pub GoesOn : Result Plan ScenarioFault → Result Plan ExitStatus → (errors errors' : Option (List ℕ)) → Type 0
 GoesOn (Ok plan) result errors errors' = (result ≡ Ok plan) × (errors' ≡ errors)
 GoesOn (Err fault) result errors errors' = (result ≡ Err ends.ScenarioRefused) × TellsRefusal fault errors errors'
 
--- of an input that was not read to its end: a read that failed is no refusal, and no refusal is a read that failed
+-- how the program ends where an input was not read to its end: only a read that failed ends it as a failed input
 abbrev pub EndsUnread : ReadFault → Result Plan ExitStatus → (errors errors' : Option (List ℕ)) → Type 0
 EndsUnread reads.Failed result errors errors' =
     (result ≡ Err ends.InputFailed) × AppendsFront errors errors' (codes "input failed\n")
@@ -38,7 +38,7 @@ abbrev pub IsPlanned : List ℕ → Result Plan ScenarioFault → Type 0
 IsPlanned text (Ok plan) = IsScenario (Some text) plan × IsInRange plan
 IsPlanned text (Err fault) = IsRefusal text fault
 
--- of a text that was read whole
+-- how the program goes on after a text that was read whole
 pub record GoesOnWith (text : List ℕ) (result : Result Plan ExitStatus) (errors errors' : Option (List ℕ)) : Type 0 where
   pub planned : Result Plan ScenarioFault
   pub is_planned : IsPlanned text planned
@@ -46,7 +46,7 @@ pub record GoesOnWith (text : List ℕ) (result : Result Plan ExitStatus) (error
 
 -- ---- printing
 
--- of a text that was not printed to its end
+-- how the program ends where a text was not printed to its end
 abbrev pub EndsUnprinted : Plan → PrintFault → ExitStatus → (errors errors' : Option (List ℕ)) → Type 0
 EndsUnprinted plan prints.NoMemory status errors errors' =
     (status ≡ ends.RunRefused) × TellsFault plan (faults.NoMemory None) errors errors'

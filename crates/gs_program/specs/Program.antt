@@ -1,4 +1,4 @@
--- How a run of a program ends, and what it has then written.
+-- How a run of a program ends, and what it has written by then.
 use Rattle.std.specs.Prelude.{◌≡◌, ◌++◌, ℕ, Bool, false, true, List, [], codes, decimal, Option, Some, None, IfSome, ◌⊎◌}
 use Rattle.std.specs.Io.KnownBytes.{Appends, IsAtEnd, Keeps}
 use Rattle.gs_scenario.specs.declared.fault.ScenarioFault.{ScenarioFault}
@@ -20,14 +20,13 @@ use Rattle.gs_streams.specs.Streams.{AppendsFront}
 abbrev pub refusal_line : ScenarioFault → List ℕ
 refusal_line fault = codes "scenario refused: " ++ refusal_text fault ++ codes "\n"
 
--- the line of the refusal was added to errors, or a front of it; where there was no memory for the line, that of being out
--- of memory
+-- The line of the refusal was added to errors, or a front of it. Instead, this may be the line for out of memory.
 pub record TellsRefusal (fault : ScenarioFault) (errors errors' : Option (List ℕ)) : Type 0 where
   pub told : ScenarioFault
   pub which : (told ≡ fault) ⊎ (told ≡ NoMemory)
   pub line : AppendsFront errors errors' (refusal_line told)
 
--- a fault that a run may meet: where it needs no threads, only being out of memory
+-- a fault that a run may have: a run that needs no threads can only be out of memory
 abbrev pub MayMeet : (needs_threads : Bool) → NetFault → Type 0
 MayMeet needs_threads fault = needs_threads ≡ false → number_of fault ≡ 24
 
@@ -46,20 +45,19 @@ abbrev pub run_refusal_line : Plan → NetFault → List ℕ
 run_refusal_line plan fault =
     codes "run refused: " ++ decimal (number_of fault) ++ spaced_name plan (peer_of fault) ++ codes "\n"
 
--- the same fault, of no peer
+-- the same fault without its peer
 abbrev pub nameless : NetFault → NetFault
 nameless (faults.NoMemory peer) = faults.NoMemory None
 nameless faults.NoThread = faults.NoThread
 
--- the line of the fault was added to errors, or a front of it; with its number and no name, where there was no memory for
--- the line
+-- the line of the fault was added to errors, or a front of it; that line may have the fault's number and no name
 pub record TellsFault (plan : Plan) (fault : NetFault) (errors errors' : Option (List ℕ)) : Type 0 where
   pub told : NetFault
   pub which : (told ≡ fault) ⊎ (told ≡ nameless fault)
   pub line : AppendsFront errors errors' (run_refusal_line plan told)
 
--- Of each end: the reader had the first left to read and then the second, and each writer held the first and then the
--- second.
+-- For each end: the reader had `input` left to read before, and `input'` after. Each writer held the first text before, and
+-- the second after.
 
 -- the line of the scenario's refusal is on errors, or a front of it, and nothing more on the output
 pub record ScenarioRefused (input output output' errors errors' : Option (List ℕ)) : Type 0 where
@@ -68,8 +66,8 @@ pub record ScenarioRefused (input output output' errors errors' : Option (List �
   pub line : AppendsFront errors errors' (refusal_line fault)
   pub silent : Keeps output output'
 
--- a run of the scenario met a fault, or there was no memory to report on it: errors has the line of
--- that, or a front of it, and the output has nothing more
+-- A run of the scenario met a fault, or it was out of memory for the text about it. The line of that is on errors, or a
+-- front of it, and the output has nothing more.
 pub record RunRefused (needs_threads : Bool) (input output output' errors errors' : Option (List ℕ)) : Type 0 where
   pub plan : Plan
   pub scenario : IsScenario input plan
@@ -78,7 +76,7 @@ pub record RunRefused (needs_threads : Bool) (input output output' errors errors
   pub tells : TellsFault plan fault errors errors'
   pub silent : Keeps output output'
 
--- a read of the input failed, or the reads ran out
+-- a read of the input failed, or the input had not ended after the most reads
 pub record InputFailed (output output' errors errors' : Option (List ℕ)) : Type 0 where
   pub line : AppendsFront errors errors' (codes "input failed\n")
   pub silent : Keeps output output'
@@ -92,9 +90,9 @@ status_of ends.TextRefused = 2
 status_of ends.InputFailed = 3
 status_of ends.OutputFailed = 3
 
--- of a program that writes this text of a report
+-- for a program that writes this text about a report
 module _ (text_of : Plan → Report → List ℕ) where
-  -- nothing is left to read of the scenario; the whole text of its run is on the output, and nothing more on errors
+  -- nothing of the scenario is left to read; the whole text about its run is on the output, and nothing more on errors
   pub record Reported (input input' output output' errors errors' : Option (List ℕ)) : Type 0 where
     pub plan : Plan
     pub scenario : IsScenario input plan
@@ -104,7 +102,7 @@ module _ (text_of : Plan → Report → List ℕ) where
     pub text : Appends output output' (text_of plan report)
     pub silent : Keeps errors errors'
 
-  -- a front of the text of a run of the scenario is on the output, which failed then
+  -- a front of the text about a run of the scenario is on the output, and then the output failed
   pub record OutputFailed (input output output' errors errors' : Option (List ℕ)) : Type 0 where
     pub plan : Plan
     pub scenario : IsScenario input plan
@@ -113,8 +111,8 @@ module _ (text_of : Plan → Report → List ℕ) where
     pub text : AppendsFront output output' (text_of plan report)
     pub line : AppendsFront errors errors' (codes "output failed\n")
 
-  -- a run of the scenario ended, and there was no memory for the rest of its text: a front of it is on the output, and
-  -- errors has the line of that, or a front of it
+  -- A run of the scenario ended, and it was out of memory for the rest of its text. A front of the text is on the output.
+  -- The line for out of memory is on errors, or a front of it.
   pub record TextRefused (input output output' errors errors' : Option (List ℕ)) : Type 0 where
     pub plan : Plan
     pub scenario : IsScenario input plan
@@ -123,9 +121,9 @@ module _ (text_of : Plan → Report → List ℕ) where
     pub text : AppendsFront output output' (text_of plan report)
     pub line : AppendsFront errors errors' (codes "run refused: 24\n")
 
--- of one that writes this text, in parts or as a whole
+-- for a program that writes this text, in parts or as a whole
 module _ (text_of : Plan → Report → List ℕ) (in_parts : Bool) where
-  -- where its runs need threads, or none: what each status says
+  -- what each status says, for runs that need threads or runs that need none
   abbrev pub EndsAs : (needs_threads : Bool) → ExitStatus → (input input' output output' errors errors' : Option (List ℕ))
       → Type 0
   EndsAs needs ends.Reported input input' output output' errors errors' =
@@ -140,7 +138,7 @@ module _ (text_of : Plan → Report → List ℕ) (in_parts : Bool) where
   EndsAs needs ends.OutputFailed input input' output output' errors errors' =
       OutputFailed text_of input output output' errors errors'
 
-  -- the status is that of an end which the streams show
+  -- the process ends with the status of an end, and the streams are as that end says
   pub record EndsWith (needs_threads : Bool) (status : ℕ) (input input' output output' errors errors' : Option (List ℕ))
       : Type 0 where
     pub ended : ExitStatus

@@ -9,10 +9,11 @@ use std::env::{self, Env};
 use std::io::{self, ErrorKind, Write};
 use std::process::ExitCode;
 
-/// The arguments after the program's name. Which they are, no clause says, since the standard library says nothing of it.
+/// Returns the arguments after the program's name. No clause says which they are, since the contracts of the standard
+/// library don't.
 ///
 /// # Errors
-/// One where an argument is no UTF-8, and `OutOfMemory` where there was no memory for them.
+/// An error if an argument is not UTF-8, and `OutOfMemory` when out of memory for them.
 pub fn arguments_of<T: Env + AllocGlobal>(rt: &T) -> io::Result<Vec<String>> {
     let mut arguments = Vec::new(rt.alloc());
     for argument in env::args(rt)?.skip(1) {
@@ -21,7 +22,7 @@ pub fn arguments_of<T: Env + AllocGlobal>(rt: &T) -> io::Result<Vec<String>> {
     Ok(arguments)
 }
 
-/// Says how a program is called, or a front of that, and gives the status for wrong arguments.
+/// Writes how a program is called, or a front of that, and returns the status for wrong arguments.
 pub fn refuse_arguments<E: Write>(errors: &mut E, usage: &str) -> ExitCode
     ensures { IsRefusedSo usage.now wrong_arguments (exit_status result) (E.contents errors.old) (E.contents errors.new) }
 {
@@ -29,7 +30,8 @@ pub fn refuse_arguments<E: Write>(errors: &mut E, usage: &str) -> ExitCode
     ExitCode::from(64)
 }
 
-/// Says why the arguments could not be read: there was no memory for them, or one of them is no text.
+/// Writes why the arguments could not be read, or a front of that, and returns the status. Either it was out of memory for
+/// them, or one of them is not UTF-8.
 pub fn refuse_unread<E: Write>(cause: ErrorKind, errors: &mut E, usage: &str) -> ExitCode
     ensures memory { cause ≡ ErrorKind.OutOfMemory
         → IsRefusedSo no_memory refused (exit_status result) (E.contents errors.old) (E.contents errors.new) }

@@ -1,4 +1,4 @@
-//! The programs that read a scenario, run it and write a text of what the run leaves.
+//! Programs that read a scenario, run it and write a text about the run.
 #![tactic(auto)]
 
 mod arguments;

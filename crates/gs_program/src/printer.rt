@@ -1,4 +1,4 @@
-//! What makes a text of a run's report.
+//! What makes a text from a run's report.
 ghost use Rattle.std.specs.Prelude.{Bool, IfErr, IfOk, IsErrOf, List, ℕ, ◌≡◌, false};
 ghost use Rattle.gs_plan.specs.declared.plan.Plan.{Plan as PlanValue};
 ghost use Rattle.gs_report.specs.declared.report.Report.{Report as ReportValue};
@@ -12,18 +12,18 @@ use gs_streams::write_text;
 use std::alloc::{AllocError, Global};
 use std::io::Write;
 
-/// Whoever makes a text of a run's report.
+/// A type that makes a text from a run's report.
 pub trait Printer: Drop {
-    // The text of a report of a plan.
+    // The text for the report of a plan's run.
     ghost text: { Self → PlanValue → ReportValue → List ℕ };
 
-    // Whether it writes a part of its text before it has made the rest.
+    // Whether the printer writes a part of its text before it has made the rest.
     ghost in_parts: { Bool };
 
-    /// Makes the text of a report of a plan in range, and writes it to the output.
+    /// Makes the text for the report of a plan in range, and writes it to the output.
     ///
     /// # Errors
-    /// One where the text was not written to its end. Each says what the output has then.
+    /// An error if the text was not written to its end. Each error says what the output has then.
     fn print<W: Write>(
         &self,
         alloc: Global,
@@ -40,18 +40,18 @@ pub trait Printer: Drop {
 /// Why a text was not written to its end.
 #[derive(Clone, Copy, Debug, PartialEq, Eq)]
 pub enum PrintFault {
-    /// There was no memory for it. Nothing of it was written.
+    /// Out of memory for the text. None of it was written.
     NoMemory,
-    /// There was no memory for the rest of it. A front of it was written.
+    /// Out of memory for the rest of the text. A front of it was written.
     CutOff,
-    /// A write failed, or took nothing. A front of it was written.
+    /// A write failed, or took no bytes. A front of the text was written.
     WriteFailed,
 }
 
-/// Writes a text that was made as a whole, if there was memory for it.
+/// Writes a text that was made as a whole, unless it was out of memory for the text.
 ///
 /// # Errors
-/// `NoMemory` where there was none, and `WriteFailed` where a write failed, or took nothing.
+/// `NoMemory` when out of memory for the text. `WriteFailed` if a write failed, or took no bytes.
 pub fn print_whole<W: Write>(
     made: Result<Vec<u8>, AllocError>,
     output: &mut W,

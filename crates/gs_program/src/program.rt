@@ -28,16 +28,17 @@ use std::process::ExitCode;
 pub enum ExitStatus {
     /// The text is on the output.
     Reported,
-    /// The scenario is refused, and a line on `errors`, or a front of it, says so.
+    /// The scenario is refused. A line on `errors`, or a front of it, says so.
     ScenarioRefused,
-    /// The run met a fault, or was out of memory for its text. No field says which, and no clause that either happened.
+    /// The run met a fault, or was out of memory for its text. No field says which, and no clause says that either happened.
     RunRefused,
-    /// Out of memory for the rest of the text. A front of it is on the output: by the clause, even all of it.
+    /// Out of memory for the rest of the text. A front of the text is on the output. By the clause, that may be all of it.
     TextRefused,
     /// A read of the input failed, or it was read `MOST_READS` times and had not ended. No field says which, and no clause
-    /// that either happened.
+    /// says that either happened.
     InputFailed,
-    /// A write of the text failed, or took nothing. A front of it is on the output: by the clause, even all of it.
+    /// A write of the text failed, or took no bytes. A front of the text is on the output. By the clause, that may be all of
+    /// it.
     OutputFailed,
 }
 
@@ -54,18 +55,18 @@ impl From<ExitStatus> for ExitCode {
     }
 }
 
-/// A program that runs a scenario, and writes a text of what the run leaves.
+/// A program that runs a scenario, and writes a text about the run.
 #[derive(Drop)]
 pub struct Program<P> {
     /// What its memory comes from.
     pub alloc: Global,
-    /// It makes the text.
+    /// Makes the text.
     pub printer: P,
 }
 
 impl<P: Printer> Program<P> {
-    /// Reads a scenario from the input, runs it on this thread without links, and writes a text of its report to the output
-    /// after the run. Why there is none is a line on `errors`, or a front of it.
+    /// Reads a scenario from the input, runs it on this thread without links, and writes a text about its report after the
+    /// run. Where there is no text, a line on `errors`, or a front of it, says why.
     pub fn run<R, W, E>(&self, input: &mut R, output: &mut W, errors: &mut E) -> ExitStatus
     where
         R: Read,
@@ -83,7 +84,7 @@ impl<P: Printer> Program<P> {
         }
     }
 
-    /// Runs the program over these streams, and gives the status that its process ends with.
+    /// Runs the program over these streams, and returns the status with which its process ends.
     pub fn run_to_exit<R, W, E>(&self, input: &mut R, output: &mut W, errors: &mut E) -> ExitCode
     where
         R: Read,
@@ -99,7 +100,7 @@ impl<P: Printer> Program<P> {
     /// Reads a scenario from the input. Where there is none to run, `errors` has a line that says why, or a front of it.
     ///
     /// # Errors
-    /// How the program ends then.
+    /// How the program ends in that case.
     pub fn read<R, E>(&self, input: &mut R, errors: &mut E) -> Result<Plan, ExitStatus>
     where
         R: Read,
@@ -116,8 +117,8 @@ impl<P: Printer> Program<P> {
         plan_after(self.alloc, reading, errors)
     }
 
-    /// Writes a text of what a run of this plan, which is in range, left to the output. Where it left no report, or
-    /// there is no memory for the text, `errors` has a line that says why, or a front of it.
+    /// Writes a text about the report of a run of this plan, which is in range, to the output. Where the run left no report,
+    /// or memory ran out for the text, `errors` has a line that says why, or a front of it.
     pub fn write<W, E>(
         &self,
         plan: &Plan,
@@ -140,8 +141,8 @@ impl<P: Printer> Program<P> {
         match ran {
             Ok(report) => {
                 let printed = self.printer.print(self.alloc, plan, &report, output);
-                // The program ends after its text, and its memory goes back as a whole: to take the
-                // traces apart first, entry by entry, is a tenth of a run.
+                // The program ends after its text, and then its memory is given back as a whole. Dropping the traces first,
+                // entry by entry, would take a tenth of a run.
                 mem::forget(report);
                 self.tell_end(plan, printed, errors)
             }
@@ -152,7 +153,7 @@ impl<P: Printer> Program<P> {
         }
     }
 
-    /// Says how it ends after its text was printed, or was not.
+    /// Writes to `errors` why the text was not printed, unless it was, and returns how the program ends.
     fn tell_end<E: Write>(
         &self,
         plan: &Plan,
@@ -173,7 +174,7 @@ impl<P: Printer> Program<P> {
         }
     }
 
-    /// Says why its text was not printed to the end.
+    /// Writes to `errors` why the text was not printed to its end.
     fn tell_unprinted<E: Write>(&self, plan: &Plan, fault: PrintFault, errors: &mut E) -> ExitStatus
         ensures end { EndsUnprinted plan.now fault result (E.contents errors.old) (E.contents errors.new) }
         ensures ends { (needs : Bool) (report : ReportValue) → IsReport plan.now report

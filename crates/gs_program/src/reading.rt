@@ -1,4 +1,4 @@
-//! What comes of the reading of an input: a plan to run, or how the program ends.
+//! What results from the reading of an input: a plan to run, or how the program ends.
 ghost use Rattle.std.specs.Prelude.{◌≡◌, ◌≤◌, Err, IfOk, MatchResult, Ok, length};
 ghost use Rattle.gs_streams.specs.Streams.{longest_input};
 ghost use Rattle.gs_program.specs.Program.{TellsRefusal};
@@ -12,10 +12,10 @@ use gs_streams::{ReadFault, input_too_long, plan_from, try_to_write};
 use std::alloc::Global;
 use std::io::Write;
 
-/// The plan of what was read. Where there is none, `errors` has a line that says why, or a front of it.
+/// Returns the plan of what was read. Where there is none, `errors` has a line that says why, or a front of it.
 ///
 /// # Errors
-/// How the program ends then.
+/// How the program ends in that case.
 pub fn plan_after<E: Write>(
     alloc: Global,
     reading: Result<Vec<u8>, ReadFault>,
@@ -32,7 +32,8 @@ pub fn plan_after<E: Write>(
     }
 }
 
-/// The plan, where a scenario was read as one. Where it is refused, `errors` has the line of that, or a front of it.
+/// Returns the plan of a scenario that was read. Where the scenario is refused, `errors` has the line of its refusal, or a
+/// front of it.
 fn go_on<E: Write>(
     alloc: Global,
     planned: Result<Plan, ScenarioFault>,

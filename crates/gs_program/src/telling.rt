@@ -11,8 +11,7 @@ use gs_streams::try_to_write;
 use std::alloc::{AllocError, Global};
 use std::io::Write;
 
-/// Writes the line of a refusal, or a front of it. Where there is no memory for the line, the
-/// refusal is that.
+/// Writes the line of a refusal, or a front of it. When out of memory for that line, it writes that it is out of memory.
 pub fn tell_refusal<E: Write>(alloc: Global, errors: &mut E, fault: &ScenarioFault)
     ensures { TellsRefusal fault.now (E.contents errors.old) (E.contents errors.new) }
 {
@@ -28,8 +27,8 @@ fn refusal_line(alloc: Global, fault: &ScenarioFault) -> Result<String, AllocErr
     format!(in alloc; "scenario refused: {fault}\n")
 }
 
-/// Writes the line of a run's fault, or a front of it. Where there is no memory for the line, it
-/// names no peer.
+/// Writes the line of a run's fault, or a front of it. When out of memory for that line, it writes one without the name of a
+/// peer.
 pub fn tell_fault<E: Write>(alloc: Global, errors: &mut E, plan: &Plan, fault: NetFault)
     ensures { TellsFault plan.now fault (E.contents errors.old) (E.contents errors.new) }
 {
@@ -39,7 +38,7 @@ pub fn tell_fault<E: Write>(alloc: Global, errors: &mut E, plan: &Plan, fault: N
     }
 }
 
-/// The line of a fault without the name of a peer, which takes no memory.
+/// Returns the line of a fault without the name of a peer. It takes no memory.
 fn nameless_line(fault: NetFault) -> &'static str
     ensures { (plan : Plan) → result.now ≡ run_refusal_line plan (nameless fault) }
 {
@@ -57,7 +56,7 @@ fn fault_line(alloc: Global, plan: &Plan, fault: NetFault) -> Result<String, All
     Ok(format!(in alloc; "run refused: {number}{name}\n")?)
 }
 
-/// The name of a peer after a space, and nothing for none.
+/// Returns the name of a peer after a space, or nothing where there is no peer.
 fn spaced_name(alloc: Global, plan: &Plan, peer: Option<PeerNo>) -> Result<String, AllocError>
     ensures { IfOk result (λ text. string_bytes text ≡ spaced_name plan.now peer) }
 {

@@ -1,4 +1,4 @@
--- Messages by some peers, and subscribers among some peers.
+-- Messages whose publisher is one of some peers, and subscribers that are among some peers.
 use Rattle.std.specs.Prelude.{Bool, true, false, ◌&&◌, List, filter, map}
 use Rattle.std.specs.List.{flat_map, list_any}
 use Rattle.gs_base.specs.declared.names.PeerNo.{PeerNo}
@@ -26,7 +26,7 @@ pairs_among among pairs = filter (λ (x : Pair). is_chosen among x.subscriber) p
 abbrev pub reach_among : Chosen → MessageReach → MessageReach
 reach_among among m = record m { pairs = pairs_among among m.pairs }
 
--- the messages by some peers, each with the pairs of some subscribers
+-- the messages by some peers, each with the pairs of some subscribers only
 abbrev pub chosen_messages : Chosen → Chosen → List MessageReach → List MessageReach
 chosen_messages by among messages = map (reach_among among) (filter (is_by by) messages)
 
@@ -36,7 +36,7 @@ is_accepted Accept = true
 is_accepted Reject = false
 is_accepted Ignore = false
 
--- all pairs of accepted messages by some peers and of some subscribers, message by message
+-- all pairs of accepted messages by some peers, with some subscribers only, message by message
 abbrev pub accepted_pairs : Chosen → Chosen → List MessageReach → List Pair
 accepted_pairs by among messages =
     flat_map (λ (m : MessageReach). pairs_among among m.pairs) (filter (λ (m : MessageReach). is_accepted m.verdict && is_by by m) messages)

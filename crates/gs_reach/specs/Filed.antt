@@ -15,13 +15,13 @@ use Rattle.gs_reach.specs.declared.listed.Change.{Change}
 use Rattle.gs_reach.specs.declared.listed.Turn.{Turn}
 use Rattle.gs_reach.specs.Messages.{appearances, arrivals, turns}
 
--- those that are found under a key, and none where nothing is
+-- the values that are filed under a key, or none if there are none
 abbrev pub found : {K V S : Type 0} → (K → K → Bool) → IndexMap K (Vec V Global) S → K → List V
 found same filed key = elim (lookup (same key) filed.entries) [ None ↦ [] | Some values ↦ values.items ]
 
 -- ---- what is filed
 
--- what a publication says, wherever and whenever it does
+-- the topic and the payload of a publication, regardless of peer and moment
 abbrev pub said_of : Appearance → TopicPayload
 said_of m = record { topic = m.topic; payload = m.payload }
 
@@ -31,14 +31,14 @@ same_said x y = same_topic x.topic y.topic && same_bytes x.payload y.payload
 abbrev pub same_payload : Payload → Payload → Bool
 same_payload x y = same_bytes x.0 y.0
 
--- whatever payload on whatever topic one looks for, its publications are found
+-- for any payload on any topic, its publications are found
 abbrev pub FilesPublished : {S : Type 0} → IndexMap TopicPayload (Vec Arrival Global) S → List Appearance → Type 0
 FilesPublished filed all = (m : Appearance) → found same_said filed (said_of m) ≡ appearances m all
 
--- whatever payload one looks for, its deliveries are found
+-- for any payload, its deliveries are found
 abbrev pub FilesDelivered : {S : Type 0} → IndexMap Payload (Vec Arrival Global) S → List Appearance → Type 0
 FilesDelivered filed all = (payload : List ℕ) → found same_payload filed (record { 0 = payload }) ≡ arrivals payload all
 
--- whatever topic one looks for, who turned to it or away from it is found
+-- for any topic, it is found who subscribed to it or left it
 abbrev pub FilesTurns : {S : Type 0} → IndexMap Topic (Vec Turn Global) S → List Change → Type 0
 FilesTurns filed all = (t : Topic) → found same_topic filed t ≡ turns t all

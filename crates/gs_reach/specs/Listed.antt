@@ -1,4 +1,4 @@
--- What all peers' traces say of publications, deliveries, subscriptions and lost neighbours.
+-- What all peers' traces say about publications, deliveries, subscriptions and lost neighbours.
 use Rattle.std.specs.Prelude.{ℕ, true, false, List, [], ◌∷◌, map, Option, Some, None, reverse}
 use Rattle.std.specs.List.{flat_map}
 use Rattle.gs_base.specs.declared.names.PeerNo.{PeerNo}
@@ -26,7 +26,7 @@ act_published p at (Unsubscribe t) = []
 act_published p at (Raw q bytes) = []
 act_published p at (HangUp q) = []
 
--- The publication that an event is. Each event is named here, so that a new one is decided on.
+-- The publication that an event is. Each event is named here, so that a new one must be decided on.
 abbrev pub published_by : PeerNo → Millis → Event → List Appearance
 published_by p at (Own act) = act_published p at act
 published_by p at (Heard q rpc) = []
@@ -51,7 +51,7 @@ act_changed p at (Publish t payload) = []
 act_changed p at (Raw q bytes) = []
 act_changed p at (HangUp q) = []
 
--- The change of a subscription that an event is. Each event is named here, so that a new one is decided on.
+-- The change of a subscription that an event is. Each event is named here, so that a new one must be decided on.
 abbrev pub changed_by : PeerNo → Millis → Event → List Change
 changed_by p at (Own act) = act_changed p at act
 changed_by p at (Heard q rpc) = []
@@ -64,7 +64,7 @@ changed_by p at Decay = []
 changed_by p at (RoundEnd r) = []
 changed_by p at Shut = []
 
--- the loss of a neighbour, where one is lost
+-- the loss of a neighbour, if one is lost
 abbrev pub loss_of : PeerNo → Millis → Option PeerNo → List Loss
 loss_of p at None = []
 loss_of p at (Some q) = record { peer = p; neighbour = q; at = at } ∷ []

@@ -1,4 +1,4 @@
--- How far each message came.
+-- How far each message got.
 use Rattle.std.specs.Prelude.{ℕ, ◌-◌, ◌/◌, max, min, Bool, true, false, not, ◌&&◌, ◌||◌, nat_eq, nat_le, nat_lt, if◌then◌else◌, List, [], ◌∷◌, length, filter, fold, map, Option, Some, None}
 use Rattle.std.specs.List.{list_any}
 use Rattle.std.specs.Map.{lookup}
@@ -25,20 +25,20 @@ use Rattle.gs_reach.specs.Order.{ascending}
 
 -- ---- what one message is
 
--- two are of the same payload on the same topic
+-- two are the same payload on the same topic
 abbrev pub are_of_one : Appearance → Appearance → Bool
 are_of_one x y = same_topic x.topic y.topic && same_bytes x.payload y.payload
 
--- and two publications at the same moment are one message, whoever publishes it
+-- two publications of it at the same moment are one message, whichever peers publish it
 abbrev pub same_message : Appearance → Appearance → Bool
 same_message x y = are_of_one x y && nat_eq x.at.0 y.at.0
 
--- each publication but those that are one message with one before it
+-- each publication, except those that are the same message as one before it
 abbrev pub firsts : List Appearance → List Appearance
 firsts [] = []
 firsts (x ∷ xs) = x ∷ filter (λ y. not (same_message x y)) (firsts xs)
 
--- by moment, and at one moment in their order
+-- by moment; those at the same moment keep their order
 abbrev pub in_order : List Appearance → List Appearance
 in_order xs = ascending (λ (x : Appearance). x.at.0) xs
 
@@ -51,14 +51,14 @@ arrival_of x = record { peer = x.peer; at = x.at }
 abbrev pub appearances : Appearance → List Appearance → List Arrival
 appearances m all = map arrival_of (filter (are_of_one m) all)
 
--- where and when a payload appears, on whatever topic
+-- where and when a payload appears, on any topic
 abbrev pub arrivals : List ℕ → List Appearance → List Arrival
 arrivals payload all = map arrival_of (filter (λ (x : Appearance). same_bytes payload x.payload) all)
 
 abbrev pub turn_of : Change → Turn
 turn_of c = record { peer = c.peer; at = c.at; subscribes = c.subscribes }
 
--- who turned to a topic or away from it, and when
+-- who subscribed to a topic or left it, and when
 abbrev pub turns : Topic → List Change → List Turn
 turns t changes = map turn_of (filter (λ (c : Change). same_topic t c.topic) changes)
 
@@ -72,7 +72,7 @@ publishes published m q = list_any (λ (x : Arrival). nat_eq x.at.0 m.at.0 && sa
 abbrev pub publishers : List Appearance → Appearance → List PeerNo → ℕ
 publishers published m peers = length (filter (publishes published m) peers)
 
--- a peer turned before a moment
+-- a peer subscribed or left before a moment
 abbrev pub is_turn_of : PeerNo → Millis → Turn → Bool
 is_turn_of p at x = same_peer x.peer p && nat_lt x.at.0 at.0
 
@@ -110,11 +110,11 @@ lesser None n = n
 lesser (Some m) None = Some m
 lesser (Some m) (Some n) = Some (min m n)
 
--- the least of these, where one is there
+-- the least of these, if there is one
 abbrev pub least : List (Option ℕ) → Option ℕ
 least ns = fold lesser None ns
 
--- a publication is later than a moment by the time for which a message is seen, so it is a message that is new again
+-- a publication is later than a moment by at least the time for which a message is seen, so it is a new message again
 abbrev pub is_again : ℕ → ℕ → Arrival → Bool
 is_again ttl from x = nat_lt from x.at.0 && nat_le ttl (x.at.0 - from)
 
@@ -127,27 +127,27 @@ abbrev pub is_before : Option ℕ → ℕ → Bool
 is_before None at = true
 is_before (Some end) at = nat_lt at end
 
--- In how many rounds a delivery brought what is published at a moment. One that came before, for less time than a message
--- is seen, takes none. An older one does not count, nor does one from the end on.
+-- In how many rounds a delivery brought what is published at a moment. A delivery before that moment, by less than the time
+-- for which a message is seen, takes 0 rounds. An older one does not count, nor does one from the end on.
 abbrev pub rounds_by : Plan → ℕ → Option ℕ → Arrival → Option ℕ
 rounds_by plan from end x =
     if nat_lt x.at.0 from then (if nat_lt (from - x.at.0) plan.params.timing.seen_ttl_ms then Some 0 else None)
     else if is_before end x.at.0 then Some ((x.at.0 - from) / max 1 plan.round_ms)
     else None
 
--- in how many rounds the first of these deliveries to a peer came
+-- in how many rounds the first of these deliveries reached a peer
 abbrev pub rounds_among : Plan → ℕ → Option ℕ → List Arrival → PeerNo → Option ℕ
 rounds_among plan from end delivered q =
     least (map (rounds_by plan from end) (filter (λ (x : Arrival). same_peer x.peer q) delivered))
 
--- in how many rounds a message came to a peer, on whatever topic, where it did
+-- in how many rounds a message reached a peer, on any topic, if it did
 abbrev pub rounds_to : Plan → Listed → Appearance → PeerNo → Option ℕ
 rounds_to plan l m q =
     rounds_among plan m.at.0 (end_of plan.params.timing.seen_ttl_ms m.at.0 (appearances m l.published)) (arrivals m.payload l.delivered) q
 
 -- ---- messages
 
--- those of these peers that could be reached, in their order, each with the rounds
+-- the peers among these that could be reached, in their order, each with the rounds
 abbrev pub pairs_of : Plan → Listed → Appearance → List PeerNo → List Pair
 pairs_of plan l m peers = map (λ q. record { subscriber = q; rounds = rounds_to plan l m q }) (filter (is_subscriber plan.dials l m) peers)
 
@@ -163,8 +163,8 @@ message_reach plan l peers m = record {
 abbrev pub numbers_of : List (PeerNo × Finished) → List PeerNo
 numbers_of peers = map (λ (x : PeerNo × Finished). x.0) peers
 
--- The messages of a run, each as its first publication: by moment, then by the order of the peers, then by the order of
--- their traces.
+-- The messages of a run, each as its first publication. They are by moment, then by the order of the peers, then by the
+-- order of their traces.
 abbrev pub messages : Plan → Report → List MessageReach
 messages plan report =
     map (message_reach plan (listed report.peers.items) (numbers_of report.peers.items)) (in_order (firsts (listed report.peers.items).published))

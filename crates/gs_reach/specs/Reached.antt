@@ -36,15 +36,15 @@ reached_within k pairs = length (filter (is_reached_within k) pairs)
 abbrev pub rounds_of : List Pair → List ℕ
 rounds_of pairs = flat_map (λ (x : Pair). option_to_list x.rounds) pairs
 
--- In how many rounds a number of subscribers was reached, the first of them by rank 1: none where fewer were reached at all.
+-- In how many rounds as many subscribers as a rank says were reached, or None if fewer were reached at all. The first has rank 1.
 abbrev pub fewest : ℕ → List Pair → Option ℕ
 fewest rank pairs = slice_get (ascending (λ n. n) (rounds_of pairs)) (rank - 1)
 
--- which of `count` subscribers stands at a part in a hundred: the last of that part, rounded up, and the first at least
+-- the rank of a percentile among `count` subscribers: that percentage of them, rounded up, and at least 1
 abbrev pub rank : ℕ → ℕ → ℕ
 rank percent count = max 1 ((count * percent + 99) / 100)
 
--- in how many rounds a part in a hundred was reached, of all subscribers and not only of those that were reached
+-- in how many rounds a percentage of all subscribers was reached, and not only of those that were reached
 abbrev pub percentile : ℕ → List Pair → Option ℕ
 percentile percent pairs = fewest (rank percent (length pairs)) pairs
 
@@ -59,13 +59,13 @@ spread pairs = record {
 
 -- ---- distributions
 
--- limits of rounds, each the sum of the two before it
+-- limits of rounds; from the third on, each is the sum of the two before it
 abbrev pub limits : List ℕ
 limits =
     1 ∷ 2 ∷ 3 ∷ 5 ∷ 8 ∷ 13 ∷ 21 ∷ 34 ∷ 55 ∷ 89 ∷ 144 ∷ 233 ∷ 377 ∷ 610 ∷ 987 ∷ 1_597 ∷ 2_584 ∷ 4_181 ∷ 6_765
     ∷ 10_946 ∷ 17_711 ∷ 28_657 ∷ 46_368 ∷ 75_025 ∷ 121_393 ∷ []
 
--- these limits up to the first within which all were reached that were reached at all
+-- these limits, up to the first one within which all were reached that were reached at all
 abbrev pub shown : List Pair → List ℕ → List ℕ
 shown pairs [] = []
 shown pairs (k ∷ ks) = if nat_le (reached pairs) (reached_within k pairs) then k ∷ [] else k ∷ shown pairs ks

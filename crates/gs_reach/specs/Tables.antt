@@ -1,4 +1,4 @@
--- Values by the numbers of peers, and which tables are those of a message.
+-- Values by the numbers of peers, and what the tables of a message must say.
 use Rattle.std.specs.Prelude.{◌≡◌, ℕ, Bool, true, false, nat_le, slice_get, unwrap_or, List}
 use Rattle.gs_base.specs.declared.names.PeerNo.{PeerNo}
 use Rattle.gs_base.specs.declared.names.Millis.{Millis}
@@ -23,11 +23,11 @@ is_linked_at Never at = false
 is_linked_at (Until last) at = nat_le at last
 is_linked_at Always at = true
 
--- they say of each peer and each moment whether the peer was linked before it
+-- for each peer and each moment, the table says whether the peer was linked before it
 abbrev pub AreLinks : List Dial → List Loss → Table Linked → Type 0
 AreLinks dials losses links = (q : PeerNo) (at : Millis) → is_linked_at (cell links q) at.0 ≡ was_linked dials losses at q
 
--- they say of each peer what is asked of it for a message
+-- the tables say for each peer whether it publishes a message, whether it was subscribed, and in how many rounds it was reached
 pub record AreTablesOf (plan : Plan) (l : Listed) (m : Appearance) (tables : Tables) : Type 0 where
   pub publishers : (q : PeerNo) → cell tables.publishers q ≡ publishes l.published m q
   pub subscribed : (q : PeerNo) → cell tables.subscribed q ≡ was_subscribed l.changes m.topic m.at q

@@ -1,4 +1,4 @@
-//! What traces say, filed by what is looked for.
+//! What traces say, filed under what is looked up.
 ghost use Rattle.std.specs.Prelude.{◌≡◌, [], ◌∷◌, ◌++◌, IfOk, List, OnOk};
 ghost use Rattle.gs_reach.specs.declared.listed.Appearance.{Appearance as AppearanceValue};
 ghost use Rattle.gs_reach.specs.declared.listed.Change.{Change as ChangeValue};
@@ -16,8 +16,8 @@ use indexmap::IndexMap;
 use std::alloc::{AllocError, Global};
 use std::marker::Model;
 
-/// What traces say, and for each message where it was published and delivered, and for each topic who turned to it.
-/// Contracts see what traces say.
+/// What traces say. Also, for each message, where it was published and delivered, and for each topic, who subscribed to it
+/// or left it. Contracts see only what traces say.
 #[derive(Drop)]
 pub(crate) struct Catalogue {
     listed: Listed,
@@ -82,7 +82,7 @@ impl Catalogue {
         Ok(deliveries)
     }
 
-    /// Who turned to a topic or away from it, and when.
+    /// Which peers subscribed to a topic or left it, and when.
     pub(crate) fn turns(&self, topic: &Topic) -> &[Turn]
         ensures { result.now ≡ turns topic.now self.now.changes }
     {

@@ -1,4 +1,4 @@
-//! Messages by some peers, and subscribers among some peers.
+//! Messages whose publisher is one of some peers, and subscribers that are among some peers.
 ghost use Rattle.std.specs.Prelude.{◌≡◌, [], ◌∷◌, ◌++◌, IfOk, OnOk};
 ghost use Rattle.std.specs.List.{list_any};
 ghost use Rattle.gs_base.specs.Names.{same_peer};
@@ -19,7 +19,7 @@ pub enum Chosen {
 }
 
 impl Chosen {
-    /// Whether a peer counts.
+    /// Says whether a peer counts.
     pub fn contains(&self, peer: PeerNo) -> bool
         ensures { result ≡ is_chosen self.now peer }
     {
@@ -36,10 +36,10 @@ fn is_among(peers: &[PeerNo], peer: PeerNo) -> bool
     peers.iter().any(|chosen| *chosen == peer)
 }
 
-/// The messages whose first publisher is one of some peers, each with the pairs whose subscriber is one of some others.
+/// Returns the messages whose first publisher is one of `by`. Each has only the pairs whose subscriber is one of `among`.
 ///
 /// # Errors
-/// `AllocError` where there was no memory for them.
+/// `AllocError` when out of memory.
 pub fn chosen_messages(
     alloc: Global,
     by: &Chosen,
@@ -88,10 +88,10 @@ fn reach_among(
     })
 }
 
-/// The pairs whose subscriber is one of some peers.
+/// Returns the pairs whose subscriber is one of `among`.
 ///
 /// # Errors
-/// `AllocError` where there was no memory for them.
+/// `AllocError` when out of memory.
 pub fn pairs_among(alloc: Global, among: &Chosen, pairs: &[Pair]) -> Result<Seq<Pair>, AllocError>
     ensures { IfOk result (λ list. list ≡ pairs_among among.now pairs.now) }
 {
@@ -119,11 +119,11 @@ fn push_pair(list: &mut Seq<Pair>, among: &Chosen, pair: Pair) -> Result<(), All
     Ok(())
 }
 
-/// All pairs of a message that validation accepts, whose first publisher is one of some peers, and of a subscriber that is
-/// one of some others: message by message.
+/// Returns all pairs of accepted messages whose first publisher is one of `by`, message by message. Only pairs count whose
+/// subscriber is one of `among`.
 ///
 /// # Errors
-/// `AllocError` where there was no memory for them.
+/// `AllocError` when out of memory.
 pub fn accepted_pairs(
     alloc: Global,
     by: &Chosen,

@@ -18,26 +18,27 @@ pub struct Within {
 /// How many of all subscribers were reached, and in how many rounds.
 #[derive(Debug, Drop, PartialEq, Eq)]
 pub struct Distribution {
-    /// All subscribers of all messages.
+    /// How many pairs there are: one for each subscriber of each message.
     pub pairs: u64,
-    /// How many were reached within 1, 2, 3, 5, 8 and more rounds, up to the first limit within which all were reached that
-    /// were reached at all.
+    /// How many were reached within 1, 2, 3, 5, 8 and more rounds. The last limit is the first within which all were reached
+    /// that were reached at all.
     pub within: Seq<Within>,
     /// How many were not reached.
     pub missed: u64,
     pub spread: Spread,
 }
 
-/// Limits of rounds: each is the sum of the two before it, and the last is above the rounds of the longest run.
+/// The limits of rounds. From the third on, each is the sum of the two before it. The last one is above the rounds of the
+/// longest run.
 pub const LIMITS: [u64; 25] = [
     1, 2, 3, 5, 8, 13, 21, 34, 55, 89, 144, 233, 377, 610, 987, 1_597, 2_584, 4_181, 6_765, 10_946,
     17_711, 28_657, 46_368, 75_025, 121_393,
 ];
 
-/// How many of these subscribers were reached, and in how many rounds.
+/// Returns how many of these subscribers were reached, and in how many rounds.
 ///
 /// # Errors
-/// `AllocError` where there was no memory for it.
+/// `AllocError` when out of memory.
 #[tactic(auto, unfolding(crate::specs::Reached::distribution))]
 pub fn distribution_of(alloc: Global, pairs: &[Pair]) -> Result<Distribution, AllocError>
     ensures { IfOk result (λ of_all. of_all ≡ distribution pairs.now) }
@@ -60,7 +61,7 @@ fn within_limits(alloc: Global, pairs: &[Pair]) -> Result<Seq<Within>, AllocErro
     Ok(list)
 }
 
-/// Adds these limits up to the first within which all were reached that were reached at all.
+/// Adds these limits, up to the first one within which all were reached that were reached at all.
 fn push_limits(
     list: &mut Seq<Within>,
     pairs: &[Pair],

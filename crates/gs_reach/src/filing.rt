@@ -1,4 +1,4 @@
-//! Values that are filed under keys, in order.
+//! Values that are filed under keys, in the order of their filing.
 ghost use Rattle.std.specs.Prelude.{◌≡◌, [], ◌∷◌, ◌++◌, if◌then◌else◌, OnOk};
 ghost use Rattle.gs_reach.specs.Filed.{found};
 
@@ -6,7 +6,7 @@ use indexmap::IndexMap;
 use std::alloc::{AllocError, Global};
 use std::hash::Hash;
 
-/// What is filed under a key, in order.
+/// The values that are filed under a key, in order.
 pub(crate) fn found<'a, K: Eq + Hash + Drop, V: Drop>(
     filed: &'a IndexMap<K, Vec<V>>,
     key: &K,

@@ -25,7 +25,7 @@ pub(crate) fn firsts_in_order(
     in_order(firsts)
 }
 
-/// The same publications by moment, and at one moment in their order.
+/// The same publications by moment. Those at the same moment keep their order.
 fn in_order(publications: Vec<Appearance>) -> Result<Vec<Appearance>, AllocError>
     ensures { IfOk result (λ list. list.items ≡ in_order publications.items) }
 {
@@ -34,7 +34,7 @@ fn in_order(publications: Vec<Appearance>) -> Result<Vec<Appearance>, AllocError
     Ok(publications)
 }
 
-/// Each publication but those that are one message with one before it.
+/// Each publication, except those that are the same message as one before it.
 fn firsts(alloc: Global, published: &[Appearance]) -> Result<Vec<Appearance>, AllocError>
     ensures { IfOk result (λ list. list.items ≡ firsts published.now) }
 {
@@ -48,7 +48,7 @@ fn firsts(alloc: Global, published: &[Appearance]) -> Result<Vec<Appearance>, Al
     Ok(firsts)
 }
 
-/// Notes a publication that is no message with one before it.
+/// Notes a publication, if it is not the same message as one before it.
 fn note_first(
     filed: &IndexMap<TopicPayload, Vec<Arrival>>,
     list: &mut Vec<Appearance>,
@@ -69,7 +69,7 @@ fn note_first(
     Ok(())
 }
 
-/// Whether one of these comes at the moment of a publication.
+/// Whether one of these is at the moment of a publication.
 fn is_published_at(published: &[Arrival], one: &Appearance) -> bool
     ensures { result ≡ list_any (λ (x : ArrivalValue). nat_eq x.at.0 one.now.at.0) published.now }
 {

@@ -3,14 +3,14 @@ use bytes::Bytes;
 use gs_base::Topic;
 use std::hash::{Hash, Hasher};
 
-/// A payload on a topic, whoever published it.
+/// A payload on a topic, regardless of its publisher.
 #[derive(Debug, Drop, PartialEq, Eq)]
 pub(crate) struct TopicPayload {
     pub(crate) topic: Topic,
     pub(crate) payload: Bytes,
 }
 
-/// All of each is hashed at once, and not byte by byte.
+/// Topic and payload are each hashed at once, and not byte by byte.
 impl Hash for TopicPayload {
     ghost use Rattle.std.specs.Prelude.{[], ◌∷◌};
     ghost use Rattle.std.proofs.Common.{rules};
@@ -25,7 +25,7 @@ impl Hash for TopicPayload {
     }
 }
 
-/// A payload, on whatever topic.
+/// A payload, regardless of its topic.
 #[derive(Debug, Drop, PartialEq, Eq)]
 pub(crate) struct Payload(pub(crate) Bytes);
 

@@ -11,19 +11,19 @@ ghost use Rattle.gs_reach.specs.declared.chosen.Chosen.{Chosen as ChosenValue};
 ghost use Rattle.gs_reach.specs.declared.messages.MessageReach.{MessageReach as MessageReachValue};
 ghost use Rattle.gs_reach.specs.declared.pairs.Pair.{Pair as PairValue};
 
-/// Those that were reached and those that were not are all subscribers.
+/// The subscribers that were reached and those that were not are together all subscribers.
 pub fn reached_and_missed_are_all()
     ensures { (pairs : List PairValue) → reached pairs + missed pairs ≡ length pairs }
 {}
 
-/// In more rounds no fewer are reached.
+/// Within more rounds, at least as many subscribers are reached.
 pub fn more_rounds_reach_no_less()
     ensures { (pairs : List PairValue) (few many : ℕ)
         → few ≤ many → reached_within few pairs ≤ reached_within many pairs }
 {}
 
-/// Where a rank has a number of rounds, at least as many subscribers as its rank are reached within it, and fewer within
-/// one round less. Where it has none, fewer are reached at all.
+/// If a rank has a number of rounds, at least as many subscribers as the rank are reached within that number. Within one
+/// round less, fewer than the rank are reached. If it has no number of rounds, fewer than the rank are reached at all.
 pub fn a_percentile_has_its_rank()
     ensures within { (rank n : ℕ) (pairs : List PairValue)
         → 1 ≤ rank → fewest rank pairs ≡ Some n → rank ≤ reached_within n pairs }
@@ -33,7 +33,7 @@ pub fn a_percentile_has_its_rank()
         → 1 ≤ rank → fewest rank pairs ≡ None → reached pairs < rank }
 {}
 
-/// No publisher is a subscriber of its message.
+/// The first publisher of a message is not one of its subscribers.
 pub fn publishers_are_no_subscribers()
     ensures { (plan : PlanValue) (report : ReportValue)
         → AllByRecursion (λ (m : MessageReachValue).
@@ -41,7 +41,7 @@ pub fn publishers_are_no_subscribers()
         (messages plan report) }
 {}
 
-/// Each message is by one of a group or by another.
+/// The messages by a group of peers and the messages by others are together as many as all messages.
 pub fn all_messages_are_by_a_group_or_by_others()
     ensures { (group : ChosenValue) (list : List MessageReachValue)
         → length (filter (is_by group) list) + length (filter (λ m. not (is_by group m)) list) ≡ length list }

@@ -1,4 +1,4 @@
-//! How far each message of a run came, and in how many rounds.
+//! How far each message of a run got, and in how many rounds.
 #![tactic(auto)]
 
 mod catalogue;

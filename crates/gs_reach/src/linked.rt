@@ -15,11 +15,11 @@ use std::alloc::{AllocError, Global};
 /// Before which moments a peer had a neighbour that it did not lose.
 #[derive(Clone, Copy, Debug, PartialEq, Eq)]
 pub(crate) enum Linked {
-    /// Before none: it has no neighbour.
+    /// Before no moment: it has no neighbour.
     Never,
-    /// Before each up to this one, in milliseconds: the moment at which it lost the last of them.
+    /// Before each moment up to this one, in milliseconds: it then lost the last of them.
     Until(u64),
-    /// Before each.
+    /// Before each moment.
     Always,
 }
 
@@ -34,7 +34,7 @@ pub(crate) fn is_linked_at(linked: Linked, at: Millis) -> bool
     }
 }
 
-/// Until when each peer was linked, by these dials.
+/// Until when each peer was linked, according to these dials and losses.
 pub(crate) fn links_of(
     alloc: Global,
     dials: &[Dial],
@@ -70,7 +70,7 @@ fn link(links: &mut Table<Linked>, peer: PeerNo, kept: Linked) -> Result<(), All
     Ok(())
 }
 
-/// The one that lasts longer.
+/// The one of the two that lasts longer.
 fn later(one: Linked, other: Linked) -> Linked
     ensures { (at : ℕ) → is_linked_at result at ≡ (is_linked_at one at || is_linked_at other at) }
 {
@@ -113,7 +113,7 @@ fn kept_after(before: Linked, peer: PeerNo, neighbour: PeerNo, loss: Loss) -> Li
     before
 }
 
-/// Until a moment at most.
+/// The same, but until a moment at most.
 fn sooner(before: Linked, moment: u64) -> Linked
     ensures { (at : ℕ) → not (is_linked_at result at) ≡ (not (is_linked_at before at) || nat_lt moment at) }
 {

@@ -1,4 +1,4 @@
-//! What traces say of publications, deliveries, subscriptions and lost neighbours.
+//! What traces say about publications, deliveries, subscriptions and lost neighbours.
 ghost use Rattle.std.specs.Prelude.{◌≡◌, [], ◌∷◌, ◌++◌, IfOk, OnOk};
 ghost use Rattle.std.specs.List.{flat_map};
 ghost use Rattle.gs_rules.specs.Tables.{lost};
@@ -11,7 +11,7 @@ use gs_report::Finished;
 use gs_rules::{Event, StoredEntry};
 use std::alloc::{AllocError, Global};
 
-/// A payload on a topic that a peer published, or that was delivered to its user.
+/// A payload on a topic. A peer published it, or it was delivered to the peer's user.
 #[derive(Debug, Drop, PartialEq, Eq)]
 pub struct Appearance {
     pub peer: PeerNo,
@@ -61,7 +61,7 @@ pub(crate) struct Turn {
     pub(crate) subscribes: bool,
 }
 
-/// A peer lost a neighbour: it hung up on it, found its bytes at fault, or its link was closed.
+/// A peer lost a neighbour: it hung up on it, found its bytes at fault, or the neighbour closed its link.
 #[derive(Clone, Copy, Debug, PartialEq, Eq)]
 pub struct Loss {
     pub peer: PeerNo,
@@ -76,9 +76,9 @@ pub struct Listed {
     pub published: Seq<Appearance>,
     /// What was delivered to their users.
     pub delivered: Seq<Appearance>,
-    /// Who subscribed to a topic, and who left one.
+    /// Which peers subscribed to a topic or left one.
     pub changes: Seq<Change>,
-    /// Who lost a neighbour.
+    /// Which peers lost a neighbour.
     pub losses: Seq<Loss>,
 }
 

@@ -1,4 +1,4 @@
-//! How far each message of a run came.
+//! How far each message of a run got.
 ghost use Rattle.std.specs.Prelude.{◌≡◌, [], ◌∷◌, ◌++◌, IfOk, OnOk, map};
 ghost use Rattle.gs_reach.specs.Messages.{is_subscriber, message_reach, messages, numbers_of, pairs_of, publishers};
 ghost use Rattle.gs_reach.specs.Tables.{AreLinks, AreTablesOf};
@@ -16,22 +16,22 @@ use gs_plan::Plan;
 use gs_report::{Finished, Report};
 use std::alloc::{AllocError, Global};
 
-/// How far a message came: a payload that was published on a topic at a moment.
+/// How far a message got. A message is a payload that was published on a topic at a moment.
 ///
-/// A subscriber is a peer that does not publish it, was subscribed to its topic before its moment, and had at least one
-/// neighbour that it had not lost before. A peer that subscribes at that moment comes too late.
+/// A subscriber is a peer that does not publish the message. Before the message's moment, it was subscribed to the topic and
+/// had at least one neighbour that it had not lost. A peer that subscribes only at that moment is too late.
 #[derive(Debug, Drop, PartialEq, Eq)]
 pub struct MessageReach {
-    /// The first publication of it: by the lowest place among the peers, and there the oldest one.
+    /// Its first publication: that of the peer with the lowest place among the peers, and of that peer the oldest one.
     pub publication: Appearance,
     /// How many peers published it at that moment.
     pub publishers: u64,
-    /// What validation says of it. A message that it does not accept should reach nobody.
+    /// What validation says about it. A message that it does not accept should reach nobody.
     pub verdict: Verdict,
-    /// Each subscriber, in the order of the report's peers, and in how many rounds the message came to it. A subscriber to
-    /// which its payload was delivered before, on any topic, and that had not forgotten it, has it in 0 rounds. A delivery
-    /// does not count once the payload is a new message again: from the first publication on that topic that is at least
-    /// `seen_ttl_ms` milliseconds later.
+    /// Each subscriber, in the order of the report's peers, and in how many rounds the message reached it. This is 0 if the
+    /// payload was delivered to the subscriber before, on any topic, and it had not forgotten the payload. A delivery does
+    /// not count once the payload is a new message again. That begins with the first publication on that topic that is at
+    /// least `seen_ttl_ms` milliseconds later.
     pub pairs: Seq<Pair>,
 }
 
@@ -44,11 +44,11 @@ struct Run<'a> {
     links: Table<Linked>,
 }
 
-/// How far each message of a run came: by moment, then by the place of its first publisher among the report's peers, then
-/// in the order of its trace.
+/// Returns how far each message of a run got. The messages are by moment, then by the place of their first publisher among
+/// the report's peers, then in the order of its trace.
 ///
 /// # Errors
-/// `AllocError` where there was no memory for them.
+/// `AllocError` when out of memory.
 pub fn messages_of(
     alloc: Global,
     plan: &Plan,
@@ -118,7 +118,7 @@ fn publishers(run: &Run<'_>, message: &Appearance, tables: &Tables) -> u64
     count
 }
 
-/// The subscribers of a message, and in how many rounds it came to each.
+/// The subscribers of a message, and in how many rounds it reached each of them.
 fn pairs_of(
     alloc: Global,
     run: &Run<'_>,

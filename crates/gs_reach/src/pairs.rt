@@ -9,11 +9,11 @@ use std::alloc::{AllocError, Global};
 #[derive(Clone, Copy, Debug, PartialEq, Eq)]
 pub struct Pair {
     pub subscriber: PeerNo,
-    /// In how many rounds the message came to it. Where it did not come, none.
+    /// In how many rounds the message reached it, or `None` if it did not.
     pub rounds: Option<u64>,
 }
 
-/// How many of these subscribers were reached.
+/// Returns how many of these subscribers were reached.
 pub fn reached(pairs: &[Pair]) -> u64
     ensures { result ≡ reached pairs.now }
 {
@@ -24,7 +24,7 @@ pub fn reached(pairs: &[Pair]) -> u64
     count
 }
 
-/// How many of them were not reached.
+/// Returns how many of these subscribers were not reached.
 pub fn missed(pairs: &[Pair]) -> u64
     ensures { result ≡ missed pairs.now }
 {
@@ -35,7 +35,7 @@ pub fn missed(pairs: &[Pair]) -> u64
     count
 }
 
-/// How many of them were reached in a number of rounds or fewer.
+/// Returns how many of these subscribers were reached in a number of rounds or fewer.
 pub fn reached_within(rounds: u64, pairs: &[Pair]) -> u64
     ensures { result ≡ reached_within rounds pairs.now }
 {
@@ -78,7 +78,7 @@ fn push_rounds(all: &mut Vec<u64>, rounds: Option<u64>) -> Result<(), AllocError
     }
 }
 
-/// 1 for what is so, and else 0.
+/// 1 if it is so, and else 0.
 pub(crate) fn one_if(is_so: bool) -> u64
     ensures { result ≡ (if is_so then 1 else 0) }
 {

@@ -7,25 +7,25 @@ use crate::pairs::{Pair, rounds_of};
 use std::alloc::{AllocError, Global};
 
 /// In how many rounds parts of all subscribers were reached, by nearest rank. A subscriber that was not reached counts as
-/// later than all others, so there is no number where the part reaches it.
+/// later than all others. A part that includes one has no number.
 #[derive(Clone, Copy, Debug, PartialEq, Eq)]
 pub struct Spread {
-    /// The first of them.
+    /// For the first of them.
     pub first: Option<u64>,
-    /// Half of them.
+    /// For half of them.
     pub median: Option<u64>,
-    /// 90 in a hundred.
+    /// For 90 percent of them.
     pub ninetieth: Option<u64>,
-    /// 99 in a hundred.
+    /// For 99 percent of them.
     pub ninety_ninth: Option<u64>,
-    /// All of them.
+    /// For all of them.
     pub last: Option<u64>,
 }
 
-/// In how many rounds these subscribers were reached.
+/// Returns in how many rounds parts of these subscribers were reached.
 ///
 /// # Errors
-/// `AllocError` where there was no memory for a sorted copy.
+/// `AllocError` when out of memory for a sorted copy.
 pub fn spread_of(alloc: Global, pairs: &[Pair]) -> Result<Spread, AllocError>
     ensures { IfOk result (λ of_all. of_all ≡ spread pairs.now) }
 {

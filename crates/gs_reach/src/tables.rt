@@ -1,4 +1,4 @@
-//! What is asked of each peer for a message.
+//! The questions about each peer for a message, and their answers.
 ghost use Rattle.std.specs.Prelude.{◌≡◌, [], ◌∷◌, ◌&&◌, ◌||◌, None, Some, false, filter, map, nat_lt, fold, if◌then◌else◌, IfOk, nat_eq, OnOk};
 ghost use Rattle.std.specs.List.{list_any};
 ghost use Rattle.gs_base.specs.declared.names.PeerNo.{PeerNo as PeerNoValue};
@@ -15,19 +15,19 @@ use gs_base::Millis;
 use gs_plan::Plan;
 use std::alloc::{AllocError, Global};
 
-/// What is asked of each peer for a message.
+/// The questions about each peer for a message, and their answers.
 #[derive(Drop)]
 pub(crate) struct Tables {
     /// Whether it publishes the message.
     pub(crate) publishers: Table<bool>,
     /// Whether it was subscribed before.
     pub(crate) subscribed: Table<bool>,
-    /// In how many rounds the message came to it, where it did.
+    /// In how many rounds the message reached it, if it did.
     pub(crate) rounds: Table<Option<u64>>,
 }
 
-/// What is asked of each peer for a message. Each publication and delivery of its payload, and each change of its topic, is
-/// looked at once.
+/// Answers the questions about each peer for a message. It looks once at each publication and delivery of the payload, and
+/// at each change of the topic.
 pub(crate) fn tables_of(
     alloc: Global,
     plan: &Plan,
@@ -49,7 +49,7 @@ pub(crate) fn tables_of(
     })
 }
 
-/// Who publishes at a moment.
+/// Which peers publish at a moment.
 fn publishers_at(
     alloc: Global,
     at: Millis,
@@ -76,7 +76,7 @@ fn note_publisher(table: &mut Table<bool>, at: Millis, arrival: Arrival) -> Resu
     Ok(())
 }
 
-/// Who was subscribed before a moment, by who turned to the topic or away from it.
+/// Which peers were subscribed before a moment, according to who subscribed to the topic or left it.
 fn subscribed_before(alloc: Global, at: Millis, turns: &[Turn]) -> Result<Table<bool>, AllocError>
     ensures { IfOk result (λ table. (q : PeerNoValue)
         → cell table q ≡ fold (λ before (x : TurnValue). if is_turn_of q at x then x.subscribes else before) false turns.now) }
@@ -99,7 +99,7 @@ fn note_turn(table: &mut Table<bool>, at: Millis, turn: Turn) -> Result<(), Allo
     Ok(())
 }
 
-/// In how many rounds the first of these deliveries to each peer came.
+/// In how many rounds the first of these deliveries reached each peer.
 fn rounds_among(
     alloc: Global,
     plan: &Plan,
@@ -117,7 +117,7 @@ fn rounds_among(
     Ok(table)
 }
 
-/// Notes in how many rounds a delivery came, if it counts.
+/// Notes how many rounds a delivery took, if it counts.
 fn note_rounds(
     table: &mut Table<Option<u64>>,
     plan: &Plan,
@@ -195,7 +195,7 @@ fn end_of(seen_ttl_ms: u64, from: Millis, published: &[Arrival]) -> Option<u64>
     end
 }
 
-/// The moment of a publication, where it is a new message again and comes before the first one so far.
+/// The earlier of a moment and the moment of a publication, if that is a new message again.
 fn end_after(end: Option<u64>, seen_ttl_ms: u64, from: Millis, arrival: Arrival) -> Option<u64>
     ensures { result ≡ fold lesser end
         (map (λ (x : ArrivalValue). Some x.at.0) (filter (is_again seen_ttl_ms from.0) (arrival ∷ []))) }

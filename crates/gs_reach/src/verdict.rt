@@ -1,4 +1,4 @@
-//! What validation says of a payload.
+//! What validation says about a payload.
 ghost use Rattle.std.specs.Prelude.{◌≡◌, Some};
 ghost use Rattle.std.specs.Map.{lookup};
 ghost use Rattle.gs_base.specs.Names.{same_topic};
@@ -8,8 +8,8 @@ use bytes::Bytes;
 use gs_base::{Topic, Verdict};
 use gs_params::TopicParams;
 
-/// What a payload on a topic is found to be: the first parameters of the topic count, and where there are none it is
-/// accepted.
+/// What validation says about a payload on a topic. The first parameters of the topic count. If there are none, the payload
+/// is accepted.
 pub(crate) fn verdict_on(topics: &[(Topic, TopicParams)], topic: &Topic, payload: &Bytes) -> Verdict
     ensures { result ≡ verdict_by (lookup (same_topic topic.now) topics.now) payload.now }
 {
@@ -21,7 +21,7 @@ pub(crate) fn verdict_on(topics: &[(Topic, TopicParams)], topic: &Topic, payload
     Verdict::Accept
 }
 
-/// What a payload is found to be by these parameters: to reject goes before to ignore.
+/// What validation says about a payload by these parameters. Rejection takes precedence over ignoring.
 fn verdict_with(params: &TopicParams, payload: &[u8]) -> Verdict
     ensures { result ≡ verdict_by (Some params.now) payload.now }
 {

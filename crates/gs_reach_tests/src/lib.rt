@@ -1,5 +1,5 @@
-//! How far messages come, over traces that were made by hand. A crate is proved once more with its own tests, so these
-//! stand apart from what they call.
+//! How far messages get, in traces that were made by hand. A crate is proved again with its own tests, so these are in a
+//! crate of their own.
 #![tactic(auto)]
 
 #[cfg(test)]

@@ -44,7 +44,7 @@ fn try_body(alloc: Global) -> Seen {
     }
 }
 
-/// Feeds a piece; where there is no memory, the same piece again.
+/// Feeds a piece. If that runs out of memory, it feeds the same piece again.
 fn try_piece(alloc: Global, reader: &mut FrameReader, rpcs: &mut Vec<Rpc>, piece: &[u8]) -> Seen {
     let before = (reader.pending(), rpcs.len());
     match reader.feed(alloc, piece, rpcs) {

@@ -1,6 +1,6 @@
-//! Makes each call that can run out of memory, of the caches, scores, meshes, codec and reader, and has routers do what
-//! they do at some moments. For each of these it writes a line, `right` where all that is seen is allowed. It is run
-//! with one growth of its memory refused after the other.
+//! Makes each call of the caches, scores, meshes, codec and reader that can run out of memory. It also has routers do what
+//! they do at some moments. For each of these it writes a line, which begins with `right` where all that is seen is allowed.
+//! It is run many times, and each time another growth of its memory is refused.
 #![tactic(auto)]
 
 mod frames;
@@ -22,7 +22,7 @@ use crate::standings::try_standings;
 use std::alloc::Global;
 use std::io::Write;
 
-/// Tries what a router stands on.
+/// Tries what a router is built on.
 fn tell_parts<W: Write>(alloc: Global, output: &mut W) {
     try_codec(alloc).write_line(output, "a body that is read and written");
     try_reader(alloc).write_line(output, "a stream that is read");

@@ -32,7 +32,7 @@ static CALLS: [Call; 15] = [
     Call::Fan(5),
 ];
 
-/// What meshes tell of a topic, and of the two neighbours that have backoffs.
+/// What meshes say about a topic, and about the two neighbours that have backoffs.
 #[derive(Clone, Copy, Debug, PartialEq, Eq)]
 struct Reading {
     is_joined: bool,

@@ -23,10 +23,10 @@ static CALLS: [Call; 9] = [
     Call::Count(1, 1),
 ];
 
-/// What a cache tells of a message and a neighbour: whether it is kept, and how many answers are left.
+/// What a cache says about a message and a neighbour: whether it is kept, and how many answers are left.
 type Kept = (bool, u64);
 
-/// What a cache tells of three messages and two neighbours, and what it announces.
+/// What a cache says about three messages and two neighbours, and what it announces.
 #[derive(Debug, Drop, PartialEq, Eq)]
 struct Reading {
     first: (Kept, Kept),
@@ -77,7 +77,7 @@ fn message(alloc: Global, number: u8) -> Result<SharedPart<Message>, AllocError>
     message.share(alloc)
 }
 
-/// Makes a call, and tells whether the cache ran out of memory.
+/// Makes a call, and reports whether the cache ran out of memory.
 fn perform(alloc: Global, cache: &mut MessageCache, call: &Call) -> Result<Seen, AllocError> {
     let answer = match call {
         Call::Put(number) => {

@@ -26,8 +26,8 @@ pub struct TraceEnd {
 
 const GRAFT: &[CasePart<'static>] = &[Graft("a")];
 
-/// The router tells both neighbours of `a`. The first GRAFT comes in the backoff, is charged and answered; the second
-/// one does not.
+/// The router announces `a` to both neighbours. The first GRAFT comes in the backoff, and is charged and answered. The
+/// second one comes after it.
 pub static A_BACKOFF: Moment = Moment {
     name: "a router that hears a PRUNE, and GRAFTs in its backoff and after it",
     case: Case {
@@ -54,9 +54,9 @@ pub static A_BACKOFF: Moment = Moment {
 /// An identifier, four times.
 const FOUR_TIMES: &[Id<'static>] = &[Of(&[1]), Of(&[1]), Of(&[1]), Of(&[1])];
 
-/// The router tells both neighbours of `a`. Ten of the twelve offers are answered, and three of the four requests. Only
-/// the promise of `00` is broken, and charged at the third heartbeat. What came is gossiped at three of the heartbeats,
-/// to nobody.
+/// The router announces `a` to both neighbours. Ten of the twelve offers are answered, and three of the four requests. Only
+/// the promise of `00` is broken, and charged at the third heartbeat. What came is gossiped at three of the heartbeats, to
+/// nobody.
 pub static OFFERS: Moment = Moment {
     name: "a router that hears twelve offers, nine messages and four requests, and has four heartbeats",
     case: NOTHING,
@@ -97,9 +97,9 @@ pub static OFFERS: Moment = Moment {
     },
 };
 
-/// The router tells all thirteen of `a`. They come into its mesh, the last of them since it was dialled. Six stay: the
-/// four best, who are the three that the application praises and the first of the others, and the two that were
-/// dialled.
+/// The router announces `a` to all thirteen. They come into its mesh, the last of them because it was dialled. Six stay: the
+/// four best and the two that were dialled. The four best are the three that the application praises, and the first of the
+/// others.
 pub static GRAFTS: Moment = Moment {
     name: "a router that hears thirteen GRAFTs, and has a heartbeat",
     case: Case {

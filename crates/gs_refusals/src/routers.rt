@@ -33,9 +33,9 @@ static CALLS: [Call<'static>; 15] = [
 /// The most neighbours that a case has.
 static NEIGHBOURS: [u16; 13] = [1, 2, 3, 4, 5, 6, 7, 8, 9, 10, 11, 12, 13];
 
-// ---- what a router tells
+// ---- what a router says about itself
 
-/// What a router tells of itself, beside its entries.
+/// What a router says about itself, besides its entries.
 #[derive(Debug, Drop, PartialEq, Eq)]
 struct Reading {
     entries: usize,
@@ -145,15 +145,15 @@ impl Pair {
         is_front
     }
 
-    /// Whether the second one, which had these many entries, was left with a front of what the first one has, where the
-    /// call that it broke off is not whole.
+    /// Whether the second one, which had this many entries, was left with a front of the entries of the first one. That
+    /// front must lack an entry of the call that was broken off.
     fn is_broken_off(&self, before: usize) -> bool {
         let left = self.tried.router().trace().entries().len();
         let whole = self.whole.router().trace().entries().len();
         before <= left && left < whole && self.is_front()
     }
 
-    /// Whether the second one refuses a call as stopped and does nothing. `before` is what it tells before.
+    /// Whether the second one refuses a call as stopped and does nothing. `before` is what it said about itself before.
     fn refuses(
         &mut self,
         before: &Reading,

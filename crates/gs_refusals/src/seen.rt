@@ -7,9 +7,9 @@ use std::io::Write;
 pub enum Seen {
     /// None of them ran out of memory.
     Whole,
-    /// There was no memory for a value or an argument.
+    /// Out of memory for a value or an argument.
     NoMemory,
-    /// One of them ran out of memory, and left what it must.
+    /// One of them ran out of memory, and left what it must leave then.
     Refused,
     /// Something else was seen.
     Wrong,

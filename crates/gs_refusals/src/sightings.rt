@@ -26,7 +26,7 @@ static CALLS: [Call; 10] = [
     Call::Mark(1, Verdict::Ignore),
 ];
 
-/// What a cache tells of three messages and two neighbours.
+/// What a cache says about three messages and two neighbours.
 #[derive(Clone, Copy, Debug, PartialEq, Eq)]
 struct Reading {
     held: usize,
@@ -39,7 +39,7 @@ fn id(number: u8) -> MsgId {
     MsgId([number; 32])
 }
 
-/// For whom a delivery of a message is near.
+/// Whether a delivery of a message is near, for each of the two neighbours.
 fn near(cache: &SeenCache, number: u8) -> (bool, bool) {
     (
         cache.is_near(&id(number), PeerNo(1), Millis(5), Millis(10)),

@@ -30,7 +30,7 @@ static CALLS: [Call; 10] = [
     Call::First(2),
 ];
 
-/// What scores tell of a neighbour: its score, its counters on a topic, and what it misses.
+/// What scores say about a neighbour: its score, its counters on a topic, and what it misses.
 #[derive(Clone, Copy, Debug, PartialEq, Eq)]
 struct Reading {
     score: i128,
@@ -89,7 +89,7 @@ fn graft(scores: &mut Scores, peer: PeerNo, topic: &Topic) -> Result<(), AllocEr
     }
 }
 
-/// Makes a call, and tells whether the scores ran out of memory.
+/// Makes a call, and reports whether the scores ran out of memory.
 fn perform(alloc: Global, scores: &mut Scores, topic: &Topic, call: &Call) -> Seen {
     let Ok(mark) = mark_of(alloc, call) else {
         return Seen::NoMemory;

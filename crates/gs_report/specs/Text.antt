@@ -22,15 +22,15 @@ use Rattle.gs_plan.specs.Plans.{what_word}
 
 -- ---- words
 
--- a peer's name: a number that is no peer's has the empty one
+-- a peer's name, which is empty if the plan has no peer with the number
 abbrev pub name_of : Plan → PeerNo → List ℕ
 name_of plan p = unwrap_or (option_map (λ (planned : PlannedPeer). planned.name) (slice_get plan.peers p.0)) []
 
--- the word of the script's line at a place: a place that is no line's has the empty one
+-- the word of the script's line at a place, which is empty if there is no line at that place
 abbrev pub word_of : Plan → ℕ → List ℕ
 word_of plan place = unwrap_or (option_map (λ (line : Line). what_word line.what) (slice_get plan.script place)) []
 
--- a payload in lower-case hexadecimal digits, and the empty one as a dash
+-- a payload in lower-case hexadecimal digits, or a dash for an empty one
 abbrev pub payload_text : List ℕ → List ℕ
 payload_text [] = codes "-"
 payload_text (byte ∷ bytes) = encode_lower (byte ∷ bytes)
@@ -67,8 +67,8 @@ refused_line plan name r =
     codes "refused " ++ name ++ codes " " ++ decimal r.at.0 ++ codes " " ++ word_of plan r.line
     ++ codes " " ++ decimal (number_of r.why) ++ codes "\n"
 
--- The neighbour whose bytes, as an event found, spell no RPC or end within one, if any. Each event is named here, so that
--- a new one is decided on.
+-- The neighbour that an event found at fault, if any: its bytes spell no RPC or end within one. Each event is named here, so
+-- that a new one must be decided on.
 abbrev pub at_fault : Event → Option PeerNo
 at_fault (Lost p Fault) = Some p
 at_fault (Lost p Gone) = None
@@ -82,13 +82,13 @@ at_fault Decay = None
 at_fault (RoundEnd r) = None
 at_fault Shut = None
 
--- `fault PEER MOMENT NEIGHBOUR` of a neighbour at fault, and no line where there is none
+-- `fault PEER MOMENT NEIGHBOUR` for a neighbour at fault, and no line if there is none
 abbrev pub fault_line : Plan → List ℕ → Millis → Option PeerNo → List ℕ
 fault_line plan name at None = []
 fault_line plan name at (Some q) =
     codes "fault " ++ name ++ codes " " ++ decimal at.0 ++ codes " " ++ name_of plan q ++ codes "\n"
 
--- the line of an entry by which a neighbour was found at fault
+-- the line of an entry that found a neighbour at fault
 abbrev pub entry_faults : Plan → List ℕ → Entry → List ℕ
 entry_faults plan name e = fault_line plan name e.at (at_fault e.event)
 
@@ -106,7 +106,7 @@ score_line plan name x =
 abbrev pub links_line : ℕ → List ℕ
 links_line settled = codes "links " ++ decimal settled ++ codes " settled\n"
 
--- ---- a peer with what is left of it, by the name of its number
+-- ---- a peer with what the run leaves of it; its number gives its name
 
 -- what was delivered to it, the oldest entry first
 abbrev pub delivered_lines : Plan → PeerNo × Finished → List ℕ
@@ -120,7 +120,7 @@ refused_lines plan x = flat_map (refused_line plan (name_of plan x.0)) x.1.refus
 abbrev pub fault_lines : Plan → PeerNo × Finished → List ℕ
 fault_lines plan x = flat_map (entry_faults plan (name_of plan x.0)) (reverse x.1.trace)
 
--- who was in its meshes
+-- which peers were in its meshes
 abbrev pub mesh_lines : Plan → PeerNo × Finished → List ℕ
 mesh_lines plan x = flat_map (mesh_line plan (name_of plan x.0)) x.1.meshes
 
@@ -138,8 +138,8 @@ lines_of Scores = score_lines
 
 -- ---- the report
 
--- what was delivered, peer by peer, then what was refused, who was at fault, who was in meshes, what neighbours scored,
--- and last how many links were settled
+-- what was delivered, peer by peer, then what was refused, and who was at fault. Then come the members of meshes and the
+-- scores of neighbours, and last how many links were settled.
 abbrev pub report_text : Plan → Report → List ℕ
 report_text plan report =
     flat_map (delivered_lines plan) report.peers.items ++ flat_map (refused_lines plan) report.peers.items

@@ -1,15 +1,15 @@
 use gs_base::{PeerNo, Seq, Topic};
 use gs_rules::{RefusedLine, Trace};
 
-/// What is left of a peer when a run has ended.
+/// What a run leaves of a peer when it has ended.
 #[derive(Debug, Drop)]
 pub struct Finished {
     /// What it did, entry by entry.
     pub trace: Trace,
-    /// What it could not follow, by moment and then by place in the script.
+    /// The lines of the script that it refused, by moment and then by place in the script.
     pub refused: Seq<RefusedLine>,
-    /// Who was in the meshes of its topics when it shut down, by topic and number.
+    /// The members of its topics' meshes when it shut down, by topic and then by number.
     pub meshes: Seq<(Topic, PeerNo)>,
-    /// What each neighbour scored when it shut down, by number, in millionths.
+    /// The score of each neighbour when it shut down, in millionths, by the neighbour's number.
     pub scores: Seq<(PeerNo, i128)>,
 }

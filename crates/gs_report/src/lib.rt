@@ -1,4 +1,4 @@
-//! What a run of peers leaves, and its text.
+//! What a run of peers leaves, and the text of it.
 #![tactic(auto)]
 
 mod finished;

@@ -9,13 +9,14 @@ use gs_plan::{Plan, what_word};
 use gs_rules::{Event, Loss, RefusedLine, StoredEntry};
 use std::alloc::{AllocError, Global};
 
-/// The text of a run's report, as docs/FORMATS.md lists its lines: first one for each message that was delivered,
-/// peer by peer in the order of its trace, then one for each refusal, peer by peer in the order of its list, then
-/// one for each fault of a neighbour, peer by peer in the order of its trace, then one for each member of a mesh, one
-/// for each score of a neighbour, and last the line of the links. A peer has the name that the plan gives its number.
+/// Returns the text of a run's report. docs/FORMATS.md lists its lines. First comes a line for each message that was
+/// delivered, peer by peer in the order of its trace. Then comes one for each refusal, peer by peer in the order of its
+/// list. Then comes one for each fault of a neighbour, peer by peer in the order of its trace. Then come one for each member
+/// of a mesh and one for each score of a neighbour. The line of the links is the last. A peer has the name that the plan
+/// gives its number.
 ///
 /// # Errors
-/// `AllocError` where there was no memory for it.
+/// `AllocError` when out of memory.
 pub fn report_text(alloc: Global, plan: &Plan, report: &Report) -> Result<Vec<u8>, AllocError>
     ensures { IfOk result (λ text. text.items ≡ report_text plan.now report.now) }
 {
@@ -36,11 +37,11 @@ pub enum Section {
     Delivered,
     /// Which lines of the script each peer refused.
     Refused,
-    /// Whose bytes each peer found to be no RPC, in the order of its trace.
+    /// Which neighbours each peer found at fault, in the order of its trace.
     Faults,
-    /// Who was in the mesh of each topic at the end.
+    /// Which peers were in the mesh of each topic at the end.
     Meshes,
-    /// What the neighbours of each peer scored at the end.
+    /// The scores of each peer's neighbours at the end.
     Scores,
 }
 
@@ -179,7 +180,7 @@ fn push_faults(
     Ok(())
 }
 
-/// Adds a line `fault PEER MOMENT NEIGHBOUR` of an entry by which a neighbour was found at fault, and of another none.
+/// Adds a line `fault PEER MOMENT NEIGHBOUR` if an entry found a neighbour at fault, or else no line.
 fn push_fault(
     alloc: Global,
     text: &mut Vec<u8>,
@@ -200,7 +201,7 @@ fn push_fault(
     }
 }
 
-/// The neighbour whose bytes an event found to be no RPC, if any. Each event is named, so that a new one is decided on.
+/// The neighbour that an event found at fault, if any. Each event is named, so that a new one must be decided on.
 fn at_fault(event: &Event) -> Option<PeerNo>
     ensures { result ≡ at_fault event.now }
 {
@@ -284,10 +285,10 @@ fn push_score(
     text.extend_from_slice(b"\n")
 }
 
-/// Adds whole millionths as a number with six digits after the point, as a score is shown everywhere.
+/// Adds a number of millionths as a decimal number with six digits after the point. Scores are shown in this form everywhere.
 ///
 /// # Errors
-/// `AllocError` where there was no memory for it. A part of it may be there then.
+/// `AllocError` when out of memory. A part of the number may have been added then.
 pub fn push_millionths(alloc: Global, text: &mut Vec<u8>, score: i128) -> Result<(), AllocError>
     ensures { OnOk result (text.new.items ≡ text.old.items ++ score_text score) }
 {
@@ -325,7 +326,7 @@ fn push_links(alloc: Global, text: &mut Vec<u8>, settled: u64) -> Result<(), All
     text.extend_from_slice(line.as_bytes())
 }
 
-/// The name of the peer with a number. A number that is no peer's has the empty one.
+/// Returns the name of the peer with a number. If the plan has no such peer, the name is empty.
 pub fn name_of(plan: &Plan, number: PeerNo) -> &str
     ensures { result.now ≡ name_of plan.now number }
 {
@@ -335,7 +336,7 @@ pub fn name_of(plan: &Plan, number: PeerNo) -> &str
     }
 }
 
-/// The word of the script's line at a place. A place that is no line's has the empty one.
+/// Returns the word of the script's line at a place. If there is no line at that place, the word is empty.
 pub fn word_of(plan: &Plan, place: usize) -> &'static str
     ensures { result.now ≡ word_of plan.now place }
 {
@@ -345,8 +346,7 @@ pub fn word_of(plan: &Plan, place: usize) -> &'static str
     }
 }
 
-/// A payload in lower-case hexadecimal digits, and the empty one as `-`, so that each line has the
-/// same number of words.
+/// A payload in lower-case hexadecimal digits. An empty payload is `-`, so that each line has the same number of words.
 fn payload_text(alloc: Global, payload: &[u8]) -> Result<String, AllocError>
     ensures { IfOk result (λ text. string_bytes text ≡ payload_text payload.now) }
 {

@@ -1,4 +1,4 @@
--- What it is to follow a trace that stands.
+-- What it means to follow a trace that exists already.
 use Rattle.std.specs.Prelude.{◌≡◌, ◌≤◌, ◌<◌, ◌^◌, ℕ, List, [], ◌∷◌, ◌++◌, length, drop, reverse, take, Option, Some, None}
 use Rattle.gs_rules.specs.declared.fallen.Fallen.{Fallen}
 use Rattle.gs_rules.specs.declared.trace.Entry.{Entry}
@@ -15,13 +15,13 @@ abbrev pub AreInOrder : Entries → Type 0
 AreInOrder [] = Unit {0}
 AreInOrder (e ∷ L) = (last_moment L ≤ e.at.0) × AreInOrder L
 
--- whose trace is followed, what of it was seen, the newest first, and what is left of it, the oldest first
+-- the peer of the followed trace, the entries that were seen, the newest first, and those that are left, the oldest first
 pub record Reading : Type 0 where
   pub peer : Peer
   pub before : Entries
   pub left : List Entry
 
--- the tables say what the entries before say
+-- the tables say what the seen entries say
 pub record Follows (f : Follower) (v : Reading) : Type 0 where
   pub peer : peer_with f.known.setup ≡ v.peer
   pub before : v.before ≡ reverse (take f.place (reverse f.trace.now))
@@ -33,14 +33,14 @@ pub record Follows (f : Follower) (v : Reading) : Type 0 where
   pub made : AreMadeFor f.known.tables v.peer
   pub explicit : ListsExplicit f.known.setup
 
--- the next entry is seen, with what came to nothing at it
+-- the next entry is seen, with what was sent or promised in vain, as seen at it
 pub record Advances (v : Reading) (seen : Followed) (f : Follower) : Type 0 where
   pub rest : List Entry
   pub next : v.left ≡ seen.entry.now ∷ rest
   pub fallen : seen.fallen.items ≡ fell_away v.peer v.before seen.entry.now.at seen.entry.now.event
   pub follows : Follows f (record { peer = v.peer; before = seen.entry.now ∷ v.before; left = rest })
 
--- nothing is left, or one entry more is seen
+-- nothing is left, or one more entry is seen
 abbrev pub GoesOn : Reading → Option Followed → Follower → Type 0
 GoesOn v None f = (v.left ≡ []) × Follows f v
 GoesOn v (Some seen) f = Advances v seen f

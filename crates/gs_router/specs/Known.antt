@@ -12,12 +12,12 @@ use Rattle.gs_router.specs.Tables.{Agrees, AgreesOnScores, AreMadeFor}
 abbrev pub peer_with : Setup → Peer
 peer_with setup = record { params = setup.params; neighbours = setup.neighbours.items }
 
--- its list of explicit neighbours has those that are
+-- the list of explicit neighbours has just the explicit ones
 abbrev pub ListsExplicit : Setup → Type 0
 ListsExplicit setup = setup.explicit.items ≡ explicit_of (peer_with setup)
 
--- The neighbours are ascending. Heartbeats are counted by some number, and a mesh that is cut has room for its best and
--- its outbound members.
+-- The neighbours ascend. `opportunistic_ticks` is not 0, and a mesh that is cut has room for its best and its outbound
+-- members.
 pub record IsFit (setup : Setup) : Type 0 where
   pub ascending : IsAscending (peers_of setup.neighbours.items)
   pub ticks : 1 ≤ setup.params.timing.opportunistic_ticks

@@ -17,7 +17,7 @@ pub record Gives (q : PeerNo) (given : List (MsgId × Message)) (reply : Reply) 
   pub sends : reply.sends ≡ map (λ (x : MsgId × Message). (q, passed_on x.1)) given
   pub marks : reply.marks ≡ map (λ (x : MsgId × Message). marks.Answered q x.0) given
 
--- After these identifiers of a request, these messages are given, and it is known how many answers are left.
+-- After these identifiers of a request these messages were given, and the reply knows how many answers are left.
 pub record Replies (p : Peer) (L : Entries) (q : PeerNo) (ahead : List MsgId) (given : List (MsgId × Message))
     (reply : Reply) : Type 0 where
   pub gives : Gives q given reply

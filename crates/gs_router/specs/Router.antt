@@ -1,4 +1,4 @@
--- What contracts see of a router, and how a call of it ends.
+-- What contracts see of a router, and how its calls end.
 use Rattle.std.specs.Prelude.{◌≡◌, ℕ, Bool, true, false, if◌then◌else◌, Option, Some, None, Result, Ok, Err}
 use Rattle.gs_base.specs.declared.names.Millis.{Millis}
 use Rattle.gs_rules.specs.declared.event.Event.{Event}
@@ -17,7 +17,7 @@ use Rattle.gs_router.specs.declared.state.State.{State}
 use Rattle.gs_router.specs.Known.{peer_with}
 use Rattle.gs_router.specs.State.{IsReady, Appends, BreaksOff}
 
--- what is given of it, what it did, and whether it ran out of memory
+-- what it was given, what it did, and whether it ran out of memory
 pub record RouterView : Type 0 where
   pub peer : Peer
   pub trace : Entries
@@ -36,7 +36,7 @@ abbrev pub number_of : RouterFault → ℕ
 number_of (Refused why) = refusals.number_of why
 number_of NoMemory = 20
 
--- why a call for an event, or for none, is refused: everything is, once the router ran out of memory
+-- why a call for an event, or for none, is refused: after the router ran out of memory, every call is
 abbrev pub refusal_if : Peer → Entries → ℕ → Option Event → Option Refusal
 refusal_if p L at None = None
 refusal_if p L at (Some event) = refusal p L at event
@@ -46,7 +46,7 @@ refusal_of v at event = if v.is_stopped then Some Stopped else refusal_if v.peer
 
 -- ---- events
 
--- an event that needs no more than that the peer has not shut down, and owes nothing
+-- an event that needs only that the peer has not shut down, and owes nothing
 abbrev pub IsPlain : Event → Type 0
 IsPlain Decay = Unit {0}
 IsPlain (RoundEnd r) = Unit {0}
@@ -61,8 +61,7 @@ IsPlain (Lost q loss) = ⊥
 
 -- ---- how a call ends
 
--- where memory ran out: nothing came, or an entry of the event and some of what it owes; without an event this
--- cannot be
+-- if memory ran out: nothing came, or an entry of the event and some of what it owes; without an event this cannot happen
 abbrev pub Breaks : Peer → Millis → Option Event → Entries → Entries → Type 0
 Breaks p now None K L = ⊥
 Breaks p now (Some event) K L = BreaksOff p now event K L
@@ -75,15 +74,14 @@ pub record Done (m : Mode) (event : Option Event) (now : Millis)
   pub appended : Appends m old.peer old.trace s new.trace t
   pub running : new.is_stopped ≡ false
 
--- It is refused for the first reason that there is. Nothing changes, and nothing is chosen.
+-- The call is refused for the first reason that there is. Nothing changes, and nothing is chosen.
 pub record Declined (m : Mode) (why : Refusal) (event : Option Event) (now : Millis)
     (old : RouterView) (s : m.State) (new : RouterView) (t : m.State) : Type 0 where
   pub first : refusal_of old now.0 event ≡ Some why
   pub unchanged : new ≡ old
   pub undrawn : t ≡ s
 
--- Memory ran out. The trace ends with the last whole entry, up to which choices led, and everything is refused
--- from now on.
+-- Memory ran out. The trace ends with the last whole entry, and choices led up to it. From now on every call is refused.
 pub record BrokenOff (m : Mode) (event : Option Event) (now : Millis)
     (old : RouterView) (s : m.State) (new : RouterView) : Type 0 where
   pub free : refusal_of old now.0 event ≡ None
@@ -97,16 +95,16 @@ Answers m event now old s (Ok x) new t = Done m event now old s new t
 Answers m event now old s (Err (Refused why)) new t = Declined m why event now old s new t
 Answers m event now old s (Err NoMemory) new t = BrokenOff m event now old s new
 
--- How a call ends that is for an event, or for none.
+-- How a call for an event, or for none, ends.
 pub record Calls {A : Type 0} (m : Mode) (event : Option Event) (now : Millis)
     (old : RouterView) (s : m.State) (result : Result A RouterFault) (new : RouterView) (t : m.State) : Type 0 where
   pub answer : Answers m event now old s result new t
-  -- what is given of the router stays
+  -- what the router was given stays
   pub peer : new.peer ≡ old.peer
   -- its whole trace is legal
   pub legal : Legal new.peer new.trace
 
--- what a call answers by how its work ended
+-- what a call answers, depending on how its work ended
 abbrev pub answer_of : {A E : Type 0} → Result A E → Result A RouterFault
 answer_of (Ok x) = Ok x
 answer_of (Err e) = Err NoMemory

@@ -24,22 +24,22 @@ pub record IsCurrent (s : State) : Type 0 where
   pub made : AreMadeFor s.known.tables (peer_of s)
   pub fit : IsFit s.known.setup
 
--- this event comes next, of those that are owed
+-- this event is owed and comes next
 abbrev pub IsDue : State → Millis → Event → Type 0
 IsDue s now event = IsNext (peer_of s) s.trace now.0 (owed (peer_of s) s.trace).events event
 
--- The state is current, and nothing is owed: so any event may come that may open.
+-- The state is current, and nothing is owed. So any event may come that may open.
 pub record IsReady (s : State) : Type 0 where
   pub current : IsCurrent s
   pub settled : owed (peer_of s) s.trace ≡ nothing
 
--- the one trace is the other with entries before it, which may come there by choices that lead from s to t
+-- the new trace is the old one with more entries, which may come by choices that lead from s to t
 pub record Appends (m : Mode) (p : Peer) (K : Entries) (s : m.State) (L : Entries) (t : m.State) : Type 0 where
   pub entries : List Entry
   pub are : L ≡ entries ++ K
   pub legal : LegalOn m p s K entries t
 
--- the one trace is the other with one more entry, of this event and moment
+-- the new trace is the old one with one more entry, with this event and moment
 pub record Adds (m : Mode) (p : Peer) (event : Event) (now : Millis)
     (K : Entries) (s : m.State) (L : Entries) (t : m.State) : Type 0 where
   pub entry : Entry
@@ -48,7 +48,7 @@ pub record Adds (m : Mode) (p : Peer) (event : Event) (now : Millis)
   pub opened : entry.event ≡ event
   pub legal : LegalOn m p s K (entry ∷ []) t
 
--- How a step ends: the event came, by choices that lead from s to t, or memory ran out and nothing came.
+-- How a step ends: the event came by choices that lead from s to t, or memory ran out and nothing came.
 pub record Steps {A E : Type 0} (m : Mode) (event : Event) (now : Millis)
     (old : State) (s : m.State) (result : Result A E) (new : State) (t : m.State) : Type 0 where
   pub added : OnOk result (Adds m (peer_of old) event now old.trace s new.trace t)
@@ -60,27 +60,27 @@ pub record Steps {A E : Type 0} (m : Mode) (event : Event) (now : Millis)
 abbrev pub BreaksOff : Peer → Millis → Event → Entries → Entries → Type 0
 BreaksOff p now event K L = (L ≡ K) ⊎ Begins p now event K L
 
--- How the work on an event ends: it came with all that it owes, by choices that lead from s to t, or broke off
--- when memory ran out.
+-- How the work on an event ends. The event came with all that it owes, by choices that lead from s to t, or the work broke
+-- off when memory ran out.
 pub record WorkEnds {A E : Type 0} (m : Mode) (event : Event) (now : Millis)
     (old : State) (s : m.State) (result : Result A E) (new : State) (t : m.State) : Type 0 where
   pub opened : OnOk result (Opens (peer_of old) now event old.trace new.trace)
   pub appended : OnOk result (Appends m (peer_of old) old.trace s new.trace t)
   pub ready : OnOk result (IsReady new)
   pub broken : OnErr result (BreaksOff (peer_of old) now event old.trace new.trace)
-  -- what came before it broke off came by choices, too
+  -- what came before it broke off came by choices too
   pub before : OnErr result ((u : m.State) × Appends m (peer_of old) old.trace s new.trace u)
   pub legal : Legal (peer_of new) new.trace
   pub setup : new.known.setup ≡ old.known.setup
 
 -- ---- what is owed is paid
 
--- these events are left of the group that was reached, and these groups come after it
+-- these events of the current group are left, and these groups come after it
 abbrev pub left_with : Peer → Entries → List Event → List Group → Debt
 left_with p L events groups = held_or events groups (reached p L groups)
 
--- An event has begun. Its entry, and those of some of what it owes, come after the trace of a, by choices from s to t.
--- These events are left, and then these groups.
+-- An event has begun. By choices from s to t, the trace of a got its entry, and entries for some of what it owes. These
+-- events are left, and then these groups.
 pub record Paying (m : Mode) (now : Millis) (event : Event) (a : State) (s : m.State) (b : State) (t : m.State)
     (left : List Event) (groups : List Group) : Type 0 where
   pub current : IsCurrent b
@@ -90,18 +90,18 @@ pub record Paying (m : Mode) (now : Millis) (event : Event) (a : State) (s : m.S
   pub begun : Begins (peer_of a) now event a.trace b.trace
   pub appended : Appends m (peer_of a) a.trace s b.trace t
 
--- in the work on some event just these are left
+-- these events are left, and no others, in the work on some event
 abbrev pub AreLeft : (m : Mode) → Millis → List Event → State → m.State → Type 0
 AreLeft m now left b t = (event : Event) × (a : State) × (s : m.State) × Paying m now event a s b t left []
 
--- in whatever work just these were left, those are left now
+-- in any work where just the first events were left, the second ones are left now
 abbrev pub Pays : (m : Mode) → Millis → List Event → State → m.State → List Event → State → m.State → Type 0
 Pays m now left b t rest c u =
     (event : Event) (a : State) (s : m.State)
     → Paying m now event a s b t left []
     → Paying m now event a s c u rest []
 
--- The work on an event came to some state, where memory ran out: nothing came since.
+-- The work on an event reached some state. Then memory ran out, and nothing came since.
 pub record IsCutShort (m : Mode) (now : Millis) (event : Event) (a : State) (s : m.State) (c : State) : Type 0 where
   pub reached : State
   pub words : m.State
@@ -110,7 +110,7 @@ pub record IsCutShort (m : Mode) (now : Millis) (event : Event) (a : State) (s :
   pub kept : c.trace ≡ reached.trace
   pub setup : c.known.setup ≡ reached.known.setup
 
--- in whatever work just these were left, it was cut short
+-- any work where just these events were left was cut short
 abbrev pub PaysInPart : (m : Mode) → Millis → List Event → State → m.State → State → Type 0
 PaysInPart m now left b t c =
     (event : Event) (a : State) (s : m.State) → Paying m now event a s b t left [] → IsCutShort m now event a s c

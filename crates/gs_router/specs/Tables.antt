@@ -46,7 +46,7 @@ unmarked e = record e { effects = record e.effects { marks = [] } }
 
 -- ---- the router's own topics
 
--- whether a topic that it was ever subscribed to is joined
+-- whether the router is subscribed to a topic, if it ever was
 abbrev pub kept_topic : OwnTopics → Topic → Option Bool
 kept_topic own t = lookup (λ u. is_eq (topic_order t u)) own.topics.entries
 
@@ -73,8 +73,8 @@ pub record AgreesOnListeners (kept : Listeners) (L : Entries) : Type 0 where
 abbrev pub verdict_at : Sightings → MsgId → ℕ → Option Verdict
 verdict_at kept id now = verdict_in (what_counts kept.cache id now)
 
--- what a table has of a message, as it concerns one neighbour: when it was seen last, what it was found to be, and
--- whether the neighbour was noted for it since
+-- What a table knows about a message and one neighbour. It knows when the message was seen last, what it was found to be,
+-- and whether the neighbour was noted for it since.
 pub record NeighbourSighting : Type 0 where
   pub at : ℕ
   pub verdict : Verdict
@@ -85,7 +85,7 @@ neighbour_sighting kept id q now =
     option_map (λ (s : Found). record { at = s.at.0; verdict = s.verdict; noted = is_noted q s })
     (what_counts kept.cache id now)
 
--- it counts for less than a time
+-- a sighting counts for less than a given time
 abbrev pub still : ℕ → ℕ → Option NeighbourSighting → Option NeighbourSighting
 still ttl now None = None
 still ttl now (Some s) = if nat_lt (now - s.at) ttl then Some s else None
@@ -93,22 +93,22 @@ still ttl now (Some s) = if nat_lt (now - s.at) ttl then Some s else None
 abbrev pub sighting_noted : Bool → Sighting → NeighbourSighting
 sighting_noted noted s = record { at = s.at; verdict = s.verdict; noted = noted }
 
--- as a trace has it
+-- the same, as a trace has it
 abbrev pub neighbour_sighting_in : ℕ → Entries → MsgId → PeerNo → ℕ → Option NeighbourSighting
 neighbour_sighting_in ttl L id q now = still ttl now (option_map (sighting_noted (noted L id q)) (last_seen L id))
 
--- what a mark that a message was seen leaves of it
+-- what it is after a mark that a message was seen
 abbrev pub neighbour_sighting_after : ℕ → ℕ → MsgId → ℕ → Mark → Option NeighbourSighting → Option NeighbourSighting
 neighbour_sighting_after ttl now id at (marks.Seen other verdict) before =
     if same_id other id then still ttl now (Some (record { at = at; verdict = verdict; noted = false })) else before
 neighbour_sighting_after ttl now id at other before = before
 
--- and what is left of it where marks say, or do not, that the neighbour passed the message on
+-- what it is after marks that say, or do not say, that the neighbour passed the message on
 abbrev pub noted_if : Bool → Option NeighbourSighting → Option NeighbourSighting
 noted_if noted None = None
 noted_if noted (Some s) = Some (record { at = s.at; verdict = s.verdict; noted = noted || s.noted })
 
--- which messages marks say were seen at a moment was noted
+-- the table noted which messages were seen at a moment, as marks say
 pub record Sees (at : ℕ) (marks : List Mark) (old new : Sightings) : Type 0 where
   pub tells
       : (id : MsgId) (q : PeerNo) (now : ℕ) → new.cache.moment ≤ now
@@ -118,7 +118,7 @@ pub record Sees (at : ℕ) (marks : List Mark) (old new : Sightings) : Type 0 wh
   pub moment : new.cache.moment ≤ at
   pub ttl : new.cache.ttl ≡ old.cache.ttl
 
--- and who passed on which message, as they say
+-- the table noted who passed on which message, as marks say
 pub record PassesOn (marks : List Mark) (old new : Sightings) : Type 0 where
   pub tells
       : (id : MsgId) (q : PeerNo) (now : ℕ) → new.cache.moment ≤ now
@@ -126,7 +126,7 @@ pub record PassesOn (marks : List Mark) (old new : Sightings) : Type 0 where
   pub moment : new.cache.moment ≡ old.cache.moment
   pub ttl : new.cache.ttl ≡ old.cache.ttl
 
--- the table may have forgotten what counts no more
+-- the table may have forgotten what no longer counts
 pub record AgreesOnSightings (kept : Sightings) (L : Entries) : Type 0 where
   pub sees : (id : MsgId) (now : ℕ) → kept.cache.moment ≤ now → verdict_at kept id now ≡ seen kept.cache.ttl L id now
   pub tells
@@ -141,16 +141,16 @@ abbrev pub keeping_in : Messages → MsgId → Option Keeping
 keeping_in table id =
     option_map (λ (c : Cached). record { topic = c.topic; message = c.message; age = c.age }) (cached table.cache id)
 
--- how many of `most` answers at first are left to a neighbour, where a message is kept
+-- how many answers are left to a neighbour, of `most` at first, if a message is kept
 abbrev pub left_of : ℕ → Option Keeping → ℕ → Option ℕ
 left_of most keeping given = option_map (λ (k : Keeping). most - given) keeping
 
--- how many answers are left to a neighbour: none where no message is kept
+-- how many answers are left to a neighbour: none if no message is kept
 abbrev pub answers_left : ℕ → ℕ → Entries → PeerNo → MsgId → ℕ
 answers_left most len L q id = unwrap_or (left_of most (kept len L id) (answered L q id)) 0
 
--- The table has of what was kept last what is kept still, by how often each neighbour got it since, and in the order
--- in which it was kept.
+-- The table has those messages kept last that are kept still, in the order in which they were kept. It knows how often each
+-- neighbour got one since.
 pub record HasKept (table : Messages) (last : MsgId → Option Keeping) (given : PeerNo → MsgId → ℕ) (order : List MsgId)
     : Type 0 where
   pub some : 0 < table.cache.len
@@ -175,7 +175,7 @@ pub record IsMadeAlike (old new : Messages) : Type 0 where
 abbrev pub budget_in : Budgets → PeerNo → Budget
 budget_in table q = unwrap_or (lookup (same_peer q) table.left.entries) table.full
 
--- what a mark leaves of it
+-- what it is after a mark
 abbrev pub budget_after : PeerNo → Mark → Budget → Budget
 budget_after q (marks.Offered p) before =
     if same_peer p q then record { offers = before.offers - 1; ids = before.ids } else before
@@ -204,14 +204,14 @@ pub record AgreesOnPromises (table : Promises) (L : Entries) : Type 0 where
 
 -- ---- scores
 
--- what counts of a peer's neighbours is what happened to them
+-- the standings of a peer's neighbours agree with what the trace says about them
 abbrev pub AgreesOnScores : Peer → Standings → Entries → Type 0
 AgreesOnScores p table L = histories.Agrees (setting_of p) table.scores (history p L)
 
 -- ---- meshes
 
--- The table has who is in each mesh and in each fanout, when the router last published on a topic without being
--- subscribed, and until when neighbours are not to be grafted.
+-- The table says who is in each mesh and in each fanout, and when the router last published on a topic without being
+-- subscribed. It also says until when neighbours may not be grafted.
 pub record HasMeshes (table : Memberships) (mesh fanout : Topic → List PeerNo) (published : Topic → Option ℕ)
     (backoff : PeerNo → Topic → ℕ) : Type 0 where
   pub members : (t : Topic) → meshes.members table.meshes t ≡ mesh t
@@ -232,7 +232,7 @@ neither_mesh_nor_fanout = record { has_mesh = false; has_fanout = false }
 abbrev pub mesh_or_fanout_in : MeshTopics → Topic → MeshOrFanout
 mesh_or_fanout_in table t = unwrap_or (lookup (λ u. is_eq (topic_order t u)) table.topics.entries) neither_mesh_nor_fanout
 
--- what an event leaves of whether a topic has a fanout, and what a mark does
+-- whether a topic has a fanout after an event, and after a mark
 abbrev pub dropped_by : Topic → Event → Bool → Bool
 dropped_by t event before = dropped_after t false event before
 
@@ -240,7 +240,7 @@ abbrev pub fanned_by : Topic → Mark → Bool → Bool
 fanned_by t (marks.Published u) before = if same_topic u t then true else before
 fanned_by t other before = before
 
--- the table has which topics have a mesh, and which a fanout
+-- the table says which topics have a mesh, and which have a fanout
 pub record HasTopics (table : MeshTopics) (meshes fanouts : Topic → Bool) : Type 0 where
   pub mesh_or_fanout : (t : Topic) → mesh_or_fanout_in table t ≡ record { has_mesh = meshes t; has_fanout = fanouts t }
 
@@ -272,7 +272,7 @@ pub record Agrees (tables : Tables) (L : Entries) : Type 0 where
   pub beats : AgreesOnBeats tables.beats L
   pub neighbours : AgreesOnNeighbours tables.neighbours L
 
--- The tables were made for what is given of this peer.
+-- The tables were made for the setup of this peer.
 pub record AreMadeFor (tables : Tables) (p : Peer) : Type 0 where
   -- for how long a message counts as seen
   pub seen_ttl : tables.sightings.cache.ttl ≡ seen_ttl p

@@ -1,5 +1,4 @@
-//! What a router does about an event, as the rules say, and what it refuses. Each subject has a file with
-//! what it does and what it refuses.
+//! What a router does about an event, as the rules say, and what it refuses. There is one file for each subject.
 ghost use Rattle.std.specs.Prelude.{◌≡◌, [], ◌∷◌, IfOk};
 ghost use Rattle.gs_rules.specs.Tables.{Entries, is_shut};
 ghost use Rattle.gs_rules.specs.Rules.{act_rule, part_rule, rule_of, step_rule};
@@ -35,7 +34,7 @@ use gs_plan::Act;
 use gs_rules::{BeatStep, Effects, Event, Refusal, RpcPart};
 use std::alloc::AllocError;
 
-/// The effects that the rule gives of an event.
+/// Returns the effects that the rule gives to an event.
 pub fn effects_of<W: Words>(
     known: &Known,
     payloads: &mut Payloads,
@@ -141,7 +140,7 @@ fn effects_of_act<W: Words>(
     }
 }
 
-/// Why nothing may come any more.
+/// Returns why nothing may come any more, if that is so.
 pub fn refusal_of_anything(known: &Known) -> Option<Refusal>
     ensures { (L : Entries) → Agrees known.now.tables L → result ≡ first_of ((is_shut L, refusals.Stopped) ∷ []) }
 {
@@ -151,7 +150,7 @@ pub fn refusal_of_anything(known: &Known) -> Option<Refusal>
     None
 }
 
-/// Why an act of the router's own user may not come.
+/// Returns why an act of the router's own user may not come, if that is so.
 pub fn refusal_of(known: &Known, payloads: &mut Payloads, act: &Act, now: Millis) -> Option<Refusal>
     ensures { (L : Entries)
         → Knows known.now now.0 L

@@ -1,4 +1,4 @@
-//! Following a trace that stands: what its peer knew at each entry.
+//! Reads a trace that exists already, and says what its peer knew at each entry.
 ghost use Rattle.std.specs.Prelude.{◌≡◌, ◌≤◌, ◌<◌, ◌^◌, ◌∷◌, [], reverse, unsigned_abs, All, IfOk, Some, slice_get};
 ghost use Rattle.gs_base.specs.Names.{peers_of};
 ghost use Rattle.gs_base.specs.declared.neighbour.Neighbour.{Neighbour as NeighbourValue};
@@ -18,8 +18,8 @@ use gs_rules::{Fallen, StoredEntry, Trace};
 use gs_score::{ScoreParts, TopicParts};
 use std::alloc::{AllocError, Global};
 
-/// A reader of a peer's trace. It says what its peer knew after the entries that it has seen. After it ran out of memory,
-/// nothing is known of its answers.
+/// A reader of a peer's trace. It says what the peer knew after the entries that it has seen. After it ran out of memory,
+/// its answers are unspecified.
 #[derive(Drop)]
 pub struct Follower<'a> {
     known: Known,
@@ -32,17 +32,17 @@ pub struct Follower<'a> {
 pub struct Followed<'a> {
     /// The entry.
     pub entry: &'a StoredEntry,
-    /// What neighbours sent or promised that came to nothing at it.
+    /// What neighbours sent or promised in vain, as seen at this entry.
     pub fallen: Vec<Fallen>,
 }
 
 impl<'a> Follower<'a> {
-    /// A reader of a trace that has seen none of its entries. The trace is of a peer with these parameters, which are in
-    /// range, and with these neighbours, ascending by number. No entry is earlier than the one before it. What the
-    /// application gives each neighbour is at most 10^12 millionths either way.
+    /// Returns a reader that has seen no entry of a trace. The trace is of a peer with these parameters, which are in range,
+    /// and these neighbours, ascending by number. No entry is earlier than the one before it. The score that the application
+    /// gives each neighbour is between -10^12 and 10^12 millionths.
     ///
     /// # Errors
-    /// `AllocError` where there was no memory.
+    /// `AllocError` if memory runs out.
     pub fn new(
         alloc: Global,
         params: Params,
@@ -76,10 +76,10 @@ impl<'a> Follower<'a> {
         })
     }
 
-    /// Sees the next entry, if one is left.
+    /// Sees the next entry and returns it, if one is left.
     ///
     /// # Errors
-    /// `AllocError` where there was no memory.
+    /// `AllocError` if memory runs out.
     pub fn advance(&mut self) -> Result<Option<Followed<'a>>, AllocError>
         requires { (v : Reading) × Follows self.old v }
         ensures { IfOk result (λ seen. (v : Reading) → Follows self.old v → GoesOn v seen self.new) }
@@ -106,21 +106,21 @@ impl<'a> Follower<'a> {
         Ok(Followed { entry, fallen })
     }
 
-    /// The score of a neighbour at a moment, in millionths (gossipsub v1.1, Peer Scoring, The Score Function).
+    /// Returns the score of a neighbour at a moment, in millionths (gossipsub v1.1, Peer Scoring, The Score Function).
     pub fn score(&self, peer: PeerNo, now: Millis) -> i128
         ensures { (v : Reading) → Follows self.now v → result ≡ score v.peer v.before now.0 peer }
     {
         self.known.tables.standings.score(peer, now)
     }
 
-    /// The parts of a neighbour's score at a moment.
+    /// Returns the parts of a neighbour's score at a moment.
     pub fn score_parts(&self, peer: PeerNo, now: Millis) -> ScoreParts
         ensures { (v : Reading) → Follows self.now v → result ≡ parts_of_score v.peer v.before now.0 peer }
     {
         self.known.tables.standings.score_parts(peer, now)
     }
 
-    /// The parts of what a topic gives a neighbour at a moment.
+    /// Returns the parts of what a topic adds to a neighbour's score at a moment.
     pub fn topic_parts(&self, peer: PeerNo, topic: &Topic, now: Millis) -> TopicParts
         ensures { (v : Reading)
             → Follows self.now v
@@ -129,10 +129,10 @@ impl<'a> Follower<'a> {
         self.known.tables.standings.topic_parts(peer, topic, now)
     }
 
-    /// The topics on which anything is known of a neighbour, in the order of their bytes.
+    /// Returns the topics on which anything is known about a neighbour, in the order of their bytes.
     ///
     /// # Errors
-    /// `AllocError` where there was no memory.
+    /// `AllocError` if memory runs out.
     pub fn topics(&self, peer: PeerNo) -> Result<Vec<Topic>, AllocError>
         ensures { IfOk result (λ list. (v : Reading)
             → Follows self.now v

@@ -3,7 +3,7 @@ use crate::setup::Setup;
 use crate::tables::Tables;
 use std::alloc::Global;
 
-/// What a router reads to decide what it does: what is given of it, and what its tables say of its trace.
+/// What a router reads to decide what it does: its setup, and what its tables say about its trace.
 #[derive(Drop)]
 pub struct Known {
     /// Where entries get their memory.

@@ -15,7 +15,7 @@ fn is_among(peers: &[PeerNo], peer: PeerNo) -> bool
     peers.contains(&peer)
 }
 
-/// Those of these peers that are among others.
+/// Returns those of these peers that are among others.
 pub fn those_among(
     alloc: Global,
     others: &[PeerNo],
@@ -32,7 +32,7 @@ pub fn those_among(
     Ok(found)
 }
 
-/// Those of these peers that are not among others.
+/// Returns those of these peers that are not among others.
 pub fn those_outside(
     alloc: Global,
     others: &[PeerNo],
@@ -49,7 +49,7 @@ pub fn those_outside(
     Ok(found)
 }
 
-/// These, which ascend by number, and others among them, each at its place and once.
+/// Returns these peers, which ascend by number, together with others. Each peer stands once, in its place.
 pub fn together_with(
     alloc: Global,
     others: &[PeerNo],
@@ -65,7 +65,7 @@ pub fn together_with(
     Ok(found)
 }
 
-/// Puts a peer in its place among others that ascend by number; where it stands there, it stays once.
+/// Puts a peer in its place among others that ascend by number. A peer that is already there stays, once.
 fn put_in(peers: &mut Vec<PeerNo>, peer: PeerNo) -> Result<(), AllocError>
     ensures { OnOk result (peers.new.items ≡ put_in peer peers.old.items) }
 {
@@ -77,7 +77,7 @@ fn put_in(peers: &mut Vec<PeerNo>, peer: PeerNo) -> Result<(), AllocError>
     Ok(())
 }
 
-/// How many of these peers stand before the first one that isn't below a peer.
+/// Returns how many of these peers stand before the first one that is not below a given peer.
 fn place_of(peers: &[PeerNo], peer: PeerNo) -> usize
     ensures within { result ≤ length peers.now }
     ensures place { put_in peer peers.now ≡ take result peers.now ++ put_in peer (drop result peers.now) }
@@ -90,14 +90,14 @@ fn place_of(peers: &[PeerNo], peer: PeerNo) -> usize
     place
 }
 
-/// How many of `size` places these peers leave.
+/// Returns how many of `size` places these peers leave free.
 pub fn left_of(size: usize, peers: &[PeerNo]) -> usize
     ensures { result ≡ size - length peers.now }
 {
     size.saturating_sub(peers.len())
 }
 
-/// All of these but one.
+/// Returns all of these peers except one.
 pub fn others(alloc: Global, from: PeerNo, members: &[PeerNo]) -> Result<Vec<PeerNo>, AllocError>
     ensures { IfOk result (λ found. found.items ≡ all_but from members.now) }
 {

@@ -6,7 +6,7 @@ ghost use Rattle.gs_router.specs.PeerSets.{has};
 use gs_base::PeerNo;
 use std::alloc::{AllocError, Global};
 
-/// A set of peers. A look-up goes by the peer's number and hashes nothing.
+/// A set of peers. A look-up uses the peer's number and hashes nothing.
 #[derive(Debug, Drop)]
 pub struct PeerSet {
     /// Whether a peer is in the set, by its number. Those after the end are not.
@@ -14,7 +14,7 @@ pub struct PeerSet {
 }
 
 impl PeerSet {
-    /// The empty set. It takes no memory.
+    /// Returns the empty set. It takes no memory.
     pub fn new(alloc: Global) -> PeerSet
         ensures { (q : PeerNoValue) → has result q ≡ false }
     {
@@ -23,7 +23,7 @@ impl PeerSet {
         }
     }
 
-    /// Whether a peer is in the set.
+    /// Says whether a peer is in the set.
     pub fn contains(&self, peer: PeerNo) -> bool
         ensures { result ≡ has self.now peer }
     {
@@ -36,7 +36,7 @@ impl PeerSet {
     /// Puts a peer into the set, or takes it out.
     ///
     /// # Errors
-    /// `AllocError` where there was no memory.
+    /// `AllocError` if memory runs out.
     pub fn put(&mut self, peer: PeerNo, is_in: bool) -> Result<(), AllocError>
         ensures { OnOk result ((q : PeerNoValue)
             → has self.new q ≡ (if same_peer peer q then is_in else has self.old q)) }

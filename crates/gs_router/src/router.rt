@@ -1,5 +1,5 @@
-//! A router: what one gossipsub peer does, and its trace. It takes nothing from anywhere and sends
-//! nothing: what comes is handed in, and what is sent stands in the trace.
+//! A router: what one gossipsub peer does, and its trace. It neither receives nor sends by itself: the caller hands in what
+//! comes, and the trace says what is sent.
 ghost use Rattle.std.specs.Prelude.{◌≡◌, ◌≤◌, ◌^◌, ◌||◌, [], Some, false, unsigned_abs, All, IfOk};
 ghost use Rattle.gs_base.specs.Names.{peers_of};
 ghost use Rattle.gs_base.specs.declared.neighbour.Neighbour.{Neighbour as NeighbourValue};
@@ -30,14 +30,13 @@ use std::mem;
 
 /// A gossipsub router with its trace.
 ///
-/// Each call that may change it is handed the words by which it chooses, and leaves them as its choices do: the
-/// random words belong to who runs the router, so that one plan has one report. A call that leaves nothing to
-/// choose is handed them too, since its contract speaks of the source that it is handed; that it draws none is a
-/// law (`what_is_given_draws_no_word`).
+/// Each call that may change the router gets the words by which it chooses, and its choices draw from them. The random words
+/// belong to the caller, so that one plan has one report. A call that has nothing to choose gets them too, since its
+/// contract is about the source that it gets. A law says that such a call draws none (`what_is_given_draws_no_word`).
 ///
-/// `now`, in milliseconds, is never earlier than the last moment of the trace. A call that is refused changes
-/// nothing and draws no word. Once the router ran out of memory, the trace ends with the last whole entry, and
-/// every call is refused as `Stopped`. After `shut`, every call of the user is.
+/// `now`, in milliseconds, is never earlier than the last moment of the trace. A call that is refused changes nothing and
+/// draws no word. After the router ran out of memory, the trace ends with the last whole entry, and every call is refused
+/// with `Stopped`. After `shut`, every call of the user is refused in the same way.
 #[derive(Drop)]
 pub struct Router {
     state: State,
@@ -56,11 +55,11 @@ impl Model for Router {
 }
 
 impl Router {
-    /// A router that has done nothing, with these parameters, which are in range, and these neighbours, ascending by
-    /// number. What the application gives each is at most 10^12 millionths either way.
+    /// Returns a router that has done nothing. It has these parameters, which are in range, and these neighbours, ascending
+    /// by number. The score that the application gives each neighbour is between -10^12 and 10^12 millionths.
     ///
     /// # Errors
-    /// `AllocError` where there was no memory.
+    /// `AllocError` if memory runs out.
     pub fn new(
         alloc: Global,
         params: Params,
@@ -95,33 +94,34 @@ impl Router {
         })
     }
 
-    /// Exchanges what the router keeps of payloads with what is lent. All routers of one thread can so share one, and the
-    /// hash of a payload is computed once. What a router does does not depend on which payloads are kept.
+    /// Exchanges the router's store of payloads with the one that is lent. So all routers of one thread can share one store,
+    /// and the hash of a payload is computed once. The payloads in the store do not affect what a router does.
     pub fn exchange_payloads(&mut self, payloads: &mut Payloads)
         ensures { self.new ≡ self.old }
     {
         mem::swap(&mut self.payloads, payloads);
     }
 
-    /// Does what the router's own user has it do, or refuses it (gossipsub v1.0 and v1.1; `Act` says what each act asks).
+    /// Does what the router's own user asks, or refuses it (gossipsub v1.0 and v1.1; `Act` says what each act asks for).
     ///
-    /// - `Subscribe` announces the topic to every neighbour that is up. It grafts up to `d` of those that may come into the
-    ///   topic's mesh, members of its fanout first, and that fanout ends ("Topic Membership").
-    /// - `Unsubscribe` announces this to every neighbour that is up, and prunes each member of the mesh. No member is to come
+    /// - `Subscribe` announces the topic to every neighbour that is up. It grafts up to `d` of the neighbours that may come
+    ///   into the topic's mesh, members of its fanout first. Then that fanout ends ("Topic Membership").
+    /// - `Unsubscribe` announces this to every neighbour that is up, and prunes each member of the mesh. No member may come
     ///   back for `unsubscribe_backoff_s` ("Topic Membership", "Prune Backoff").
-    /// - `Publish` delivers the payload to the router's own user where that is subscribed to the topic. With `flood_publish`
-    ///   it goes to every neighbour that is up and on the topic. Without, it goes to the topic's mesh, or, where the router
-    ///   isn't subscribed, to its fanout, which is filled where it is empty. An explicit neighbour that is up and on the topic
-    ///   gets it whatever it scores. Any other below `publish_threshold` gets nothing ("Message Processing", "Flood
-    ///   Publishing", "Score Thresholds", "Explicit Peering Agreements").
+    /// - `Publish` delivers the payload to the router's own user if the router is subscribed to the topic. With
+    ///   `flood_publish` it goes to every neighbour that is up and on the topic. Otherwise it goes to the topic's mesh. If
+    ///   the router is not subscribed, it goes to the topic's fanout, which is filled if it is empty. An explicit neighbour
+    ///   that is up and on the topic gets the payload at any score. Any other neighbour that scores below
+    ///   `publish_threshold` gets nothing ("Message Processing", "Flood Publishing", "Score Thresholds", "Explicit Peering
+    ///   Agreements").
     /// - `Raw` puts any number of bytes on the link, after what was sent and before what is sent later. Nothing else changes.
     /// - `HangUp` closes the link after what was sent. The neighbour leaves every mesh and every fanout, and is charged with
-    ///   what is missing of its deliveries there ("Peer Scoring", P3b). It counts no more at its address (P6). It is sent
-    ///   nothing any more, what still comes of it is late, and neither the end of its link nor its faults make an entry.
+    ///   what is missing of its deliveries there ("Peer Scoring", P3b). It no longer counts at its address (P6). Nothing
+    ///   more is sent to it, and what still comes from it is late. Neither the end of its link nor its faults make an entry.
     ///
     /// # Errors
-    /// First `Stopped`, whatever the act. Then, in this order, for `Subscribe` `TooLong`, `Joined`, `TooMany`; for
-    /// `Unsubscribe` `NotJoined`; for `Publish` `TooLong`, `AlreadySeen`; for `Raw` and `HangUp` `NotOpen`. And `NoMemory`.
+    /// `Stopped` first, for any act. Then, in this order, for `Subscribe` `TooLong`, `Joined`, `TooMany`; for `Unsubscribe`
+    /// `NotJoined`; for `Publish` `TooLong`, `AlreadySeen`; for `Raw` and `HangUp` `NotOpen`. And `NoMemory`.
     pub fn obey<W: Words>(
         &mut self,
         act: Act,
@@ -143,9 +143,9 @@ impl Router {
         ended(&mut self.is_stopped, done)
     }
 
-    /// Has a heartbeat (gossipsub v1.0, Heartbeat): charges promises that were broken, mends each mesh, mends each fanout
-    /// or ends it where nothing was published for `fanout_ttl_ms`, gossips on each topic on which there is something, and
-    /// begins a new window of what is kept.
+    /// Does a heartbeat (gossipsub v1.0, Heartbeat). It charges broken promises and mends each mesh. It mends each fanout,
+    /// or ends it if nothing was published on it for `fanout_ttl_ms`. It gossips on each topic that has something to gossip.
+    /// Then it begins a new window of kept messages.
     ///
     /// # Errors
     /// `Stopped`, and `NoMemory`.
@@ -164,7 +164,7 @@ impl Router {
         ended(&mut self.is_stopped, done)
     }
 
-    /// Lowers the counters that scores are made of by a step (gossipsub v1.1, Peer Scoring, Parameter Decay).
+    /// Lowers by one step the counters that make up scores (gossipsub v1.1, Peer Scoring, Parameter Decay).
     ///
     /// # Errors
     /// `Stopped`, and `NoMemory`.
@@ -205,7 +205,7 @@ impl Router {
         self.open(Event::Shut, now, words)
     }
 
-    /// Has an event come that needs no more than that the router has not shut down, or refuses it.
+    /// Lets an event come, or refuses it. The event needs only that the router has not shut down.
     fn open<W: Words>(
         &mut self,
         event: Event,
@@ -228,7 +228,7 @@ impl Router {
     }
 }
 
-/// How a call ends: where the router was out of memory, it has stopped.
+/// Returns how a call ends. A router that ran out of memory has stopped.
 fn ended(is_stopped: &mut bool, done: Result<(), AllocError>) -> Result<(), RouterFault>
     ensures answer { result ≡ answer_of done }
     ensures stopped { is_stopped.new ≡ (is_stopped.old || fails done) }

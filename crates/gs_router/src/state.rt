@@ -24,10 +24,10 @@ use gs_plan::Act;
 use gs_rules::{Entry, Event, StoredEntry, Trace};
 use std::alloc::AllocError;
 
-/// What is given of a router, what it did, and what that says.
+/// A router's setup, its trace, and the tables that the trace determines.
 ///
-/// After a failed step the trace ends with the last whole entry, and the tables may not agree with
-/// it any more: then no further step can be taken.
+/// After a failed step the trace ends with the last whole entry. The tables may no longer agree with the trace, so no
+/// further step can be taken.
 #[derive(Drop)]
 pub struct State {
     pub known: Known,
@@ -38,7 +38,7 @@ impl State {
     /// Brings every table up to date from an entry, and adds that to the trace.
     ///
     /// # Errors
-    /// `AllocError` where there was no memory; the trace is then as it was.
+    /// `AllocError` if memory runs out. The trace is then as it was.
     fn append(&mut self, entry: Entry) -> Result<(), AllocError>
         requires time { self.old.known.tables.sightings.cache.moment ≤ entry.at.0 }
         requires few { self.old.known.tables.standings.scores.decays ≤ length self.old.trace }
@@ -60,7 +60,7 @@ impl State {
         self.trace.push_stored(stored)
     }
 
-    /// Does what the rule says of the event that comes next.
+    /// Does what the rule says about the event that comes next.
     fn step<W: Words>(&mut self, event: Event, now: Millis, words: &mut W) -> Result<(), AllocError>
         requires current { IsCurrent self.old }
         requires time { last_moment self.old.trace ≤ now.0 }
@@ -70,7 +70,7 @@ impl State {
         self.step_with(&mut Payloads::new(self.known.alloc), event, now, words)
     }
 
-    /// `step`, where payloads that are known need not be hashed again.
+    /// Does what `step` does, but does not hash known payloads again.
     fn step_with<W: Words>(
         &mut self,
         payloads: &mut Payloads,
@@ -91,7 +91,7 @@ impl State {
         })
     }
 
-    /// Does what the rule says of an event that owes nothing.
+    /// Does what the rule says about an event that owes nothing.
     pub fn open<W: Words>(
         &mut self,
         payloads: &mut Payloads,
@@ -108,7 +108,7 @@ impl State {
         self.step_with(payloads, event, now, words)
     }
 
-    /// Does what the router's own user has it do, which may come.
+    /// Does what the router's own user asks, which is allowed now.
     pub fn obey<W: Words>(
         &mut self,
         payloads: &mut Payloads,
@@ -125,7 +125,7 @@ impl State {
         self.open(payloads, Event::Own(act), now, words)
     }
 
-    /// Hears an RPC, and all its parts where its sender is up and not on the graylist.
+    /// Hears an RPC. If its sender is up and not on the graylist, all its parts are heard too.
     pub fn hear<W: Words>(
         &mut self,
         payloads: &mut Payloads,
@@ -169,7 +169,7 @@ impl State {
     }
 }
 
-/// The same RPC, made small for a trace: its messages share payloads that are known, and their list has no room to spare.
+/// Returns the same RPC, made small for a trace. Its messages share known payloads, and their list has no unused room.
 fn compact(payloads: &Payloads, rpc: Rpc) -> Rpc
     ensures { result ≡ rpc }
 {

@@ -1,5 +1,5 @@
-//! What a router knows beside its trace, so that no call looks through that. Each table is brought
-//! up to date from an entry and nothing else: its event and its marks.
+//! What a router knows in addition to its trace, so that no call searches the trace. Each table is updated from an entry and
+//! nothing else: its event and its marks.
 ghost use Rattle.std.specs.Prelude.{◌≡◌, ◌≤◌, ◌<◌, ◌^◌, [], ◌∷◌, unsigned_abs, All, OnOk, IfOk};
 ghost use Rattle.gs_base.specs.Names.{peers_of};
 ghost use Rattle.gs_base.specs.declared.neighbour.Neighbour.{Neighbour as NeighbourValue};
@@ -37,7 +37,7 @@ use gs_params::{Params, Timing};
 use gs_rules::StoredEntry;
 use std::alloc::{AllocError, Global};
 
-/// What a router knows beside its trace.
+/// What a router knows in addition to its trace.
 #[derive(Drop)]
 pub struct Tables {
     pub topics: OwnTopics,
@@ -54,10 +54,10 @@ pub struct Tables {
 }
 
 impl Tables {
-    /// The tables of a router that has done nothing, with these parameters and these neighbours.
+    /// Returns the tables of a router that has done nothing, with these parameters and these neighbours.
     ///
     /// # Errors
-    /// `AllocError` where there was no memory.
+    /// `AllocError` if memory runs out.
     pub fn new(
         alloc: Global,
         params: &Params,
@@ -100,7 +100,7 @@ impl Tables {
     /// Notes an entry, which comes no earlier than those before it.
     ///
     /// # Errors
-    /// `AllocError` where there was no memory; some of the tables may then have noted it.
+    /// `AllocError` if memory runs out. Some of the tables may then have noted the entry.
     pub fn note(&mut self, entry: &StoredEntry) -> Result<(), AllocError>
         requires time { self.old.sightings.cache.moment ≤ entry.now.at.0 }
         requires few { self.old.standings.scores.decays < 2 ^ 63 }

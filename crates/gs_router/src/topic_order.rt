@@ -10,10 +10,10 @@ use gs_base::{Topic, clone_of};
 use std::alloc::{AllocError, Global};
 use std::collections::BTreeMap;
 
-/// These topics in the order of their bytes, each once. They are shared, not copied.
+/// Returns these topics in the order of their bytes, each once. They are shared, not copied.
 ///
 /// # Errors
-/// `AllocError` where there was no memory.
+/// `AllocError` if memory runs out.
 pub fn in_order(alloc: Global, topics: &[Topic]) -> Result<Vec<Topic>, AllocError>
     ensures { IfOk result (λ list. list.items ≡ ascending topics.now) }
 {
@@ -22,7 +22,7 @@ pub fn in_order(alloc: Global, topics: &[Topic]) -> Result<Vec<Topic>, AllocErro
     Ok(list)
 }
 
-/// The topics of a tree that have `true`.
+/// Returns the topics of a tree that have `true`.
 fn listed(alloc: Global, tree: &BTreeMap<Topic, bool>) -> Result<Vec<Topic>, AllocError>
     ensures { IfOk result (λ list. (ts : List TopicValue)
         → ((t : TopicValue)
@@ -39,7 +39,7 @@ fn listed(alloc: Global, tree: &BTreeMap<Topic, bool>) -> Result<Vec<Topic>, All
     Ok(list)
 }
 
-/// A tree of these topics, each with `true`.
+/// Returns a tree of these topics, each with `true`.
 fn tree_of(alloc: Global, topics: &[Topic]) -> Result<BTreeMap<Topic, bool>, AllocError>
     ensures { IfOk result (λ tree. (t : TopicValue)
         → lookup (λ u. is_eq (topic_order t u)) tree.entries

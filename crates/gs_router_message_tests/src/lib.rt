@@ -1,5 +1,5 @@
-//! What routers answer and leave in their traces, compared with tables. A crate is proved once more with its own tests, so
-//! these stand apart from the router that they call.
+//! What routers answer and leave in their traces, compared with tables. A crate with tests of its own is proved a second
+//! time, so these tests have their own crate.
 #![tactic(auto)]
 
 #[cfg(test)]

@@ -56,7 +56,7 @@ fn spelled(alloc: Global, body: &[u8]) -> Result<Rpc, AllocError> {
     }
 }
 
-/// Has a router hear an RPC.
+/// Makes a router hear an RPC.
 fn listen(
     alloc: Global,
     router: &mut Router,
@@ -81,7 +81,7 @@ fn listen(
 
 // ---- what is done
 
-/// The act of a call that is one of the router's own user. With any other call the test fails.
+/// Returns the act of a call, which must be one of the router's own user. With any other call the test fails.
 pub fn act_of(alloc: Global, call: Call<'_>) -> Result<Act, AllocError> {
     match call {
         Call::Subscribe(name) => Ok(Act::Subscribe(topic_of(alloc, name)?)),
@@ -100,7 +100,7 @@ pub fn act_of(alloc: Global, call: Call<'_>) -> Result<Act, AllocError> {
     }
 }
 
-/// Has a router obey its own user.
+/// Makes a router obey its own user.
 fn obey(
     alloc: Global,
     router: &mut Router,
@@ -114,7 +114,7 @@ fn obey(
     Ok(router.obey(act, now, words))
 }
 
-/// Has a router do what comes with time, or with the end of a link or of its life.
+/// Makes a router do what comes with time, with the end of a link, or with the end of its run.
 fn turn(
     router: &mut Router,
     now: Millis,
@@ -170,7 +170,7 @@ fn allowed(
     }
 }
 
-/// Makes several calls of a router but the last of them, which it gives, if there is one.
+/// Makes all of several calls of a router except the last one, which it returns, if there is one.
 pub fn all_but_last<'a>(
     alloc: Global,
     router: &mut Router,

@@ -1,15 +1,15 @@
-//! What is done to a router, and what must be seen of it then.
+//! What is done to a router, and what must be seen of it after that.
 use crate::parts::CasePart;
 use gs_params::{
     DEFAULT_DEGREES, DEFAULT_FACTORS, DEFAULT_FLOOD_PUBLISH, DEFAULT_TIMING, DEFAULT_TOPIC_FACTORS,
     Degrees, Factors, Timing, TopicFactors,
 };
 
-/// An identifier, by the payload that it is of.
+/// An identifier, named by its payload.
 #[derive(Clone, Copy, Debug)]
 pub enum Id<'a> {
     Of(&'a [u8]),
-    /// By its bytes, in what a neighbour says. It is seen by its payload.
+    /// By its bytes, in what a neighbour says. Where it is seen, it is named by its payload.
     Is(&'a [u8]),
     /// All but its last byte.
     ShortOf(&'a [u8]),
@@ -46,12 +46,12 @@ pub const NO_FIELDS: Fields<'static> = Fields {
 pub enum Call<'a> {
     /// It hears an RPC of a neighbour.
     Hear(u16, &'a [CasePart<'a>]),
-    /// It hears one of each neighbour from a number on, up to another. What is seen is what the last one brings.
+    /// It hears one RPC of each neighbour, from one number up to another. Only what the last one brings is seen.
     HearEach(u16, u16, &'a [CasePart<'a>]),
     /// It hears the RPC that these bytes spell.
     Read(u16, &'a [u8]),
     Subscribe(&'a str),
-    /// It subscribes to the topics that have the numbers below this as names. Nothing is seen of these.
+    /// It subscribes to the topics that are named by the numbers below this one. Nothing of these calls is seen.
     SubscribeEach(u16),
     Unsubscribe(&'a str),
     Publish(&'a str, &'a [u8]),
@@ -67,8 +67,8 @@ pub enum Call<'a> {
     Shut,
 }
 
-/// What is seen of a router. Of the entries that a call adds all is seen that they send, deliver, promise and mark, and
-/// for which topics a heartbeat does what it does; their other events are seen where a case asks for them.
+/// What is seen of a router. A case sees all that the entries of a call send, deliver, promise and mark. It also sees for
+/// which topics a heartbeat does what it does. It sees their other events only if it asks for them.
 #[derive(Clone, Copy, Debug)]
 pub enum Seen<'a> {
     /// The call is refused with this number.
@@ -150,10 +150,10 @@ pub enum Ask<'a> {
     Times,
 }
 
-/// What a neighbour is beside its number.
+/// What a neighbour is, apart from its number.
 #[derive(Clone, Copy, Debug)]
 pub enum Kind {
-    /// It dialled, and the application says nothing of it.
+    /// It dialled, and the application says nothing about it.
     Plain,
     /// It was dialled.
     Dialled,
@@ -169,7 +169,7 @@ pub enum Kind {
     ExplicitPraised,
 }
 
-/// The parameters of a topic: what payloads begin with that are rejected or ignored, and the factors of its score.
+/// The parameters of a topic: the beginnings of payloads that are rejected or ignored, and the factors of its score.
 #[derive(Clone, Copy, Debug)]
 pub struct Rules<'a> {
     pub topic: &'a str,
@@ -178,7 +178,7 @@ pub struct Rules<'a> {
     pub factors: TopicFactors,
 }
 
-/// The parameters of `a` where nothing is said.
+/// The parameters of `a`, unless a case says otherwise.
 pub const NO_RULES: Rules<'static> = Rules {
     topic: "a",
     reject: &[],
@@ -186,8 +186,8 @@ pub const NO_RULES: Rules<'static> = Rules {
     factors: DEFAULT_TOPIC_FACTORS,
 };
 
-/// A moment, the call, and all that must be seen then: what it brings, and after that the answers, where any is another
-/// than before.
+/// A moment, the call, and all that must be seen then. That is what the call brings, and after it the answers, if any has
+/// changed.
 pub type Step<'a> = (u64, Call<'a>, &'a [Seen<'a>]);
 
 /// What a router does, step by step.
@@ -196,7 +196,7 @@ pub struct Case<'a> {
     pub name: &'a str,
     /// How many neighbours it has; their numbers begin at 1.
     pub neighbours: u16,
-    /// What the first ones are; the others are plain.
+    /// The kinds of the first ones; the others are plain.
     pub kinds: &'a [Kind],
     pub degrees: Degrees,
     pub factors: Factors,

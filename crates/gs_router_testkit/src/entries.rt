@@ -145,8 +145,8 @@ fn say_entry(
     say_effects(shown, entry)
 }
 
-/// Adds all entries of a trace with their events, each after its moment where that is another than the one before, which
-/// is 0 at first.
+/// Adds all entries of a trace with their events. The moment of an entry comes first, if it is not the same as the one
+/// before. The one before the first entry is 0.
 pub fn say_trace(shown: &mut Shown, trace: &Trace) -> Result<(), AllocError> {
     let mut before = Millis(0);
     for entry in trace.entries() {

@@ -1,4 +1,4 @@
-//! Cases of a router: what is done to it, and what must be seen then, each a value of a table.
+//! Cases for routers: what is done to a router, and what must be seen after that. Each case is a value in a table.
 #![tactic(auto)]
 
 mod calls;

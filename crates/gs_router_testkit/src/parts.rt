@@ -1,4 +1,4 @@
-//! The parts of an RPC in cases: how a case writes each kind, what an RPC is made of by it, and how it is seen.
+//! The parts of an RPC in cases: how a case writes each kind, what it puts into an RPC, and how it is seen.
 use crate::cases::{Fields, Id};
 use crate::rpcs::{ids_of, named};
 use crate::shown::{Shown, Way, name_of, on_way, said_of_message, said_of_sub, seen_ids};
@@ -24,7 +24,7 @@ pub enum CasePart<'a> {
     Graft(&'a str),
     /// With the seconds of its backoff, if it names any.
     Prune(&'a str, Option<u64>),
-    /// What shows that an RPC has not one part: how many it has.
+    /// How many parts an RPC has, if it has not exactly one.
     Parts(usize),
 }
 
@@ -54,7 +54,7 @@ fn control(alloc: Global, control: &mut Control, said: CasePart<'_>) -> Result<(
     }
 }
 
-/// What an RPC has as its one control message.
+/// Returns the control of an RPC with one control message.
 pub fn only_control(alloc: Global, said: CasePart<'_>) -> Result<Control, AllocError> {
     let mut only = Control::empty(alloc);
     control(alloc, &mut only, said)?;
@@ -125,7 +125,7 @@ pub fn say_part(shown: &mut Shown, peer: PeerNo, part: &RpcPart) -> Result<(), A
     }
 }
 
-/// How many control messages there are; an empty control counts as two.
+/// Returns how many control messages there are. An empty control counts as two.
 pub fn controls_in(control: &Option<Control>) -> usize {
     let Some(control) = control else {
         return 0;

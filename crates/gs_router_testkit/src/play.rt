@@ -99,7 +99,7 @@ fn say_refusal(shown: &mut Shown, answer: Answer) -> Result<(), AllocError> {
 }
 
 impl Player {
-    /// One that has done nothing.
+    /// Returns a player that has done nothing.
     pub fn new(alloc: Global, case: &Case<'_>) -> Result<Player, AllocError> {
         let words = SeededWords::new(case.words.to_vec(alloc)?, 1, PeerNo(0));
         Ok(Player {
@@ -114,10 +114,10 @@ impl Player {
         &self.router
     }
 
-    /// Makes one call of the router, and gives what it answers.
+    /// Makes one call of the router, and returns what it answers.
     ///
     /// # Errors
-    /// `AllocError` where there was no memory for what the call takes, or it may not come now, or it is several calls.
+    /// `AllocError` if memory runs out, if the call may not come now, or if it is several calls.
     pub fn answer(&mut self, now: Millis, call: Call<'_>) -> Result<Answer, AllocError> {
         once(self.alloc, &mut self.router, now, call, &mut self.words)
     }
@@ -150,7 +150,7 @@ impl Player {
         )
     }
 
-    /// Adds what the router answers, where that is not what it answered before.
+    /// Adds what the router answers, if that is not what it answered before.
     fn ask(&mut self, shown: &mut Shown, now: Millis, asks: &[Ask<'_>]) -> Result<(), AllocError> {
         let answers = answers(self.alloc, &self.router, now, asks)?;
         if answers.as_str() != self.answered.as_str() {
@@ -170,7 +170,7 @@ impl Player {
     }
 }
 
-/// These, as text.
+/// Returns these, as text.
 pub fn text_of_all(alloc: Global, list: &[Seen<'_>]) -> Result<String, AllocError> {
     let mut shown = nothing_shown(alloc);
     shown.add_all(list)?;
@@ -184,7 +184,7 @@ pub struct Outcome {
     pub wanted: String,
 }
 
-/// The first step where something else is seen; nothing where there is none.
+/// Returns the first step where something else is seen, if there is one.
 fn first_wrong(player: &mut Player, case: &Case<'_>) -> Result<Outcome, AllocError> {
     let alloc = player.alloc;
     for (place, step) in case.steps.iter().enumerate() {
@@ -200,7 +200,7 @@ fn first_wrong(player: &mut Player, case: &Case<'_>) -> Result<Outcome, AllocErr
     })
 }
 
-/// What was seen of the step at this place, and what was to be seen.
+/// Returns what was seen of the step at this place, and what was to be seen.
 fn differing(alloc: Global, place: usize, came: &str, wanted: &str) -> Result<Outcome, AllocError> {
     Ok(Outcome {
         came: format!(in alloc; "step {place}: {came}")?,
@@ -208,8 +208,8 @@ fn differing(alloc: Global, place: usize, came: &str, wanted: &str) -> Result<Ou
     })
 }
 
-/// Plays a case up to the first step where something else is seen: what was seen of it, and what was to be seen. Both
-/// are empty where there is none.
+/// Plays a case up to the first step where something else is seen. Returns what was seen of that step, and what was to be
+/// seen. Both are empty if there is no such step.
 pub fn played(alloc: Global, case: &Case<'_>) -> Result<Outcome, AllocError> {
     let mut player = Player::new(alloc, case)?;
     let outcome = first_wrong(&mut player, case);
@@ -224,7 +224,7 @@ fn all_steps(player: &mut Player, case: &Case<'_>) -> Result<(), AllocError> {
     Ok(())
 }
 
-/// The events of a trace, as text.
+/// Returns the events of a trace, as text.
 pub fn events_in(alloc: Global, trace: &Trace) -> Result<String, AllocError> {
     let mut shown = nothing_shown(alloc);
     for entry in trace.entries() {
@@ -240,7 +240,7 @@ fn text_of_trace(alloc: Global, trace: &Trace) -> Result<String, AllocError> {
     Ok(shown.text)
 }
 
-/// Whether this is seen of an entry: it is neither a refusal nor an answer.
+/// Says whether this is seen of an entry, so that it is neither a refusal nor an answer.
 fn is_of_an_entry(seen: &Seen<'_>) -> bool {
     match seen {
         Seen::Refused(_) => false,
@@ -250,7 +250,7 @@ fn is_of_an_entry(seen: &Seen<'_>) -> bool {
     }
 }
 
-/// Adds what must be seen of entries at a moment. The moment comes first, where it is another than the one before.
+/// Adds what must be seen of entries at a moment. The moment comes first, if it is not the same as the one before.
 fn say_wanted(
     shown: &mut Shown,
     before: &mut u64,
@@ -269,7 +269,7 @@ fn say_wanted(
     Ok(())
 }
 
-/// All entries that must be seen of the steps of a case which sees all events, as text.
+/// Returns all entries that must be seen in the steps of a case, as text. The case sees all events.
 pub fn wanted_of(alloc: Global, case: &Case<'_>) -> Result<String, AllocError> {
     let mut shown = nothing_shown(alloc);
     let mut before = 0u64;
@@ -279,7 +279,7 @@ pub fn wanted_of(alloc: Global, case: &Case<'_>) -> Result<String, AllocError> {
     Ok(shown.text)
 }
 
-/// All entries of the trace that the router of a case leaves, as text.
+/// Returns all entries of the trace that the router of a case leaves, as text.
 pub fn left_by(alloc: Global, case: &Case<'_>) -> Result<String, AllocError> {
     let mut player = Player::new(alloc, case)?;
     all_steps(&mut player, case)?;

@@ -12,7 +12,7 @@ use gs_params::{Params, TopicParams};
 use gs_router::Router;
 use std::alloc::{AllocError, Global};
 
-/// The topic of this name.
+/// Returns the topic of this name.
 pub fn topic_of(alloc: Global, name: &str) -> Result<Topic, AllocError> {
     Ok(Topic(Bytes::copy_from_slice(alloc, name.as_bytes())?))
 }
@@ -87,7 +87,7 @@ fn neighbours(alloc: Global, count: u16, kinds: &[Kind]) -> Result<Vec<Neighbour
 
 // ---- parameters
 
-/// What payloads begin with.
+/// Returns what payloads begin with.
 fn prefixes(alloc: Global, list: &[&[u8]]) -> Result<Seq<Bytes>, AllocError> {
     let mut prefixes = Seq::new(alloc);
     for prefix in list {
@@ -115,7 +115,7 @@ fn topics(alloc: Global, list: &[Rules<'_>]) -> Result<Seq<(Topic, TopicParams)>
     Ok(topics)
 }
 
-/// The parameters of a case, which pass their checks; with any others the test fails.
+/// Returns the parameters of a case, which must pass their checks. Otherwise the test fails.
 fn params_of(alloc: Global, case: &Case<'_>) -> Result<Params, AllocError>
     ensures { IfOk result AreInRange }
 {
@@ -131,7 +131,7 @@ fn params_of(alloc: Global, case: &Case<'_>) -> Result<Params, AllocError>
     }
 }
 
-/// The router of a case, which has done nothing.
+/// Returns the router of a case, which has done nothing.
 pub fn router_of(alloc: Global, case: &Case<'_>) -> Result<Router, AllocError> {
     let neighbours = neighbours(alloc, case.neighbours, case.kinds)?;
     let params = params_of(alloc, case)?;

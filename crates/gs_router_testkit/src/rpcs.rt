@@ -1,4 +1,4 @@
-//! RPCs of the parts that cases name.
+//! RPCs made of the parts that cases name.
 use crate::cases::{Fields, Id, NO_FIELDS, NO_TOPIC};
 use crate::parts::{CasePart, only_control};
 use crate::routers::topic_of;
@@ -6,7 +6,7 @@ use bytes::Bytes;
 use gs_base::{Message, MsgId, Rpc, Seq, Shared, SubOpt, Topic};
 use std::alloc::{AllocError, Global};
 
-/// The topic of this name, if it names one.
+/// Returns the topic of this name, if it names one.
 pub fn named(alloc: Global, name: &str) -> Result<Option<Topic>, AllocError> {
     if name == NO_TOPIC {
         return Ok(None);
@@ -103,7 +103,7 @@ fn add_all(alloc: Global, rpc: &mut Rpc, parts: &[CasePart<'_>]) -> Result<(), A
     Ok(())
 }
 
-/// The RPC of these parts. At most one is a control message.
+/// Returns the RPC of these parts. At most one of them is a control message.
 pub fn rpc_of(alloc: Global, parts: &[CasePart<'_>]) -> Result<Rpc, AllocError> {
     let mut rpc = Rpc {
         subs: Seq::new(alloc),

@@ -88,7 +88,7 @@ pub fn id_of(bytes: &[u8]) -> Id<'static> {
     Id::Unknown
 }
 
-/// The identifiers of these bytes.
+/// Returns the identifiers of these bytes.
 pub fn seen_ids(alloc: Global, list: &[Bytes]) -> Result<Vec<Id<'static>>, AllocError> {
     let mut ids = Vec::new(alloc);
     for bytes in list {
@@ -108,7 +108,7 @@ pub enum Way {
     Handled,
 }
 
-/// What is seen where this is said.
+/// Returns what is seen if this is said.
 pub fn on_way(way: Way, peer: PeerNo, said: CasePart<'_>) -> Seen<'_> {
     match way {
         Way::Sent => Seen::Sent(peer.0, said),
@@ -179,7 +179,7 @@ fn say_parts(shown: &mut Shown, way: Way, peer: PeerNo, rpc: &Rpc) -> Result<(),
     }
 }
 
-/// Adds each part of an RPC, and how many they are if not one.
+/// Adds each part of an RPC. If there is not exactly one part, it also adds how many there are.
 pub fn say_rpc(shown: &mut Shown, way: Way, peer: PeerNo, rpc: &Rpc) -> Result<(), AllocError> {
     let count = parts_in(rpc);
     if count != 1 {

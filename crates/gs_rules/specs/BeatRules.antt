@@ -30,8 +30,8 @@ scored_member p L at q = record { peer = q; score = score p L at q; outbound = i
 abbrev pub scored_members : Peer → Entries → ℕ → List PeerNo → List Member
 scored_members p L at qs = map (scored_member p L at) qs
 
--- Those who go are sent a PRUNE, are charged with what is missing, and are not to come back for a while. Those who come
--- in are sent a GRAFT.
+-- Those that leave are sent a PRUNE, are charged with what is missing, and must not come back for a while. Those that enter
+-- are sent a GRAFT.
 abbrev pub mending : Peer → Entries → Millis → Topic → MeshChange → Effects
 mending p L at t change = record no_effects {
   sends = to_each (pruning t p.params.timing.prune_backoff_s) change.pruned ++ to_each (grafting t) change.grafted;
@@ -40,8 +40,8 @@ mending p L at t change = record no_effects {
       ++ entering (each_on t change.grafted));
 }
 
--- The mesh of a topic goes a step, by the scores before it and the number of this heartbeat, of the neighbours that may be
--- grafted.
+-- The mesh of a topic makes a step, with the neighbours that may be grafted. It depends on the scores before it and the
+-- number of this heartbeat.
 abbrev pub mesh_beat_rule : Peer → Entries → Millis → Topic → Rule
 mesh_beat_rule p L at t =
     stepped AnyOf CutOf p.params (heartbeats L)
@@ -51,13 +51,13 @@ mesh_beat_rule p L at t =
 
 -- ---- fanouts
 
--- members that may not stay leave, and these come in
+-- members that may not stay leave, and these enter
 abbrev pub refanning : Peer → Entries → Millis → Topic → List PeerNo → Effects
 refanning p L at t chosen = record no_effects {
   marks = unfanning t (those_outside (receivers p L at.0 t) (fanout L t)) ++ fanning t chosen;
 }
 
--- Beside the members that stay any others come in that may, up to D.
+-- Members that may stay do. Any others that may enter do so, up to D.
 abbrev pub fan_beat_rule : Peer → Entries → Millis → Topic → Rule
 fan_beat_rule p L at t =
     AnyOf

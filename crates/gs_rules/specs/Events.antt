@@ -1,5 +1,5 @@
--- Which outer event an event is. Each of these names every one, so a new event needs a line here, and what reads an
--- event by these hides none.
+-- Which kind of event an event is. Each definition names every kind. So a new kind needs a line here, and no definition
+-- that uses these misses one.
 use Rattle.std.specs.Prelude.{ℕ}
 use Rattle.gs_base.specs.declared.names.PeerNo.{PeerNo}
 use Rattle.gs_plan.specs.declared.plan.Act.{Act}

@@ -1,4 +1,4 @@
--- What neighbours sent or promised that came to nothing, by the event at which it did.
+-- What neighbours sent or promised in vain, by the event that shows it.
 use Rattle.std.specs.Prelude.{ℕ, if◌then◌else◌, is_some, List, [], ◌∷◌, ◌++◌, map, Option, Some, None}
 use Rattle.std.specs.List.{flat_map}
 use Rattle.gs_base.specs.declared.names.Millis.{Millis}
@@ -28,7 +28,7 @@ use Rattle.gs_rules.specs.Rules.{answer, ids_in, times_in}
 
 -- ---- GRAFTs
 
--- a GRAFT that is answered so
+-- a GRAFT that gets this answer, if it is refused
 abbrev pub fallen_graft : PeerNo → Topic → GraftAnswer → List Fallen
 fallen_graft q t PassedOver = []
 fallen_graft q t (Refused why) = fallen.Graft q t why ∷ []
@@ -45,7 +45,7 @@ abbrev pub without_answer : PeerNo → MsgId → NoAnswer → Option Message →
 without_answer q id why None = fallen.Request q id why ∷ []
 without_answer q id why (Some m) = []
 
--- those of these identifiers that get no message, after others of the same request
+-- which of these identifiers get no message, after others of the same request
 abbrev pub without_answers : Peer → Entries → PeerNo → List MsgId → List MsgId → List Fallen
 without_answers p L q ahead [] = []
 without_answers p L q ahead (id ∷ ids) =
@@ -79,7 +79,7 @@ fallen_part p L at q (GraftIn graft) =
     fallen_graft q (topic_or_empty graft.topic) (graft_answer p L at q (topic_or_empty graft.topic))
 fallen_part p L at q (PruneIn prune) = []
 
--- what came to nothing at an event, by the trace before it
+-- what was in vain at an event, by the trace before it
 abbrev pub fell_away : Peer → Entries → Millis → Event → List Fallen
 fell_away p L at (Heard q rpc) = if is_graylisted p L at.0 q then fallen.Graylisted q ∷ [] else []
 fell_away p L at (Late q rpc) = fallen.Late q ∷ []

@@ -21,7 +21,7 @@ use Rattle.gs_rules.specs.Tables.{Entries, Keeping, kept, keeping_order, promise
 abbrev pub overdue : Entries → ℕ → PeerNo → List Promise
 overdue L at q = filter (λ promise. same_peer promise.from q && nat_le promise.until.0 at) (promises L)
 
--- each counts against the neighbour, if that is up
+-- each counts against the neighbour, if it is up
 abbrev pub charges : Entries → ℕ → PeerNo → List Mark
 charges L at q = if up L q then map (λ promise. Misbehaviour q) (overdue L at q) else []
 
@@ -62,25 +62,25 @@ is_gossiped most t (Some k) = nat_lt k.age most && same_topic k.topic t
 abbrev pub last_of : {A : Type 0} → ℕ → List A → List A
 last_of n xs = drop (length xs - n) xs
 
--- the identifiers that are gossiped on a topic, the oldest first: those that were kept last, where there are too many
+-- the identifiers that are gossiped on a topic, the oldest first: only those that were kept last, if there are too many
 abbrev pub gossip : Peer → Entries → Topic → List MsgId
 gossip p L t =
     last_of most_identifiers
     (filter (λ id. is_gossiped p.params.timing.mcache_gossip t (kept (windows p) L id)) (keeping_order L))
 
--- all identifiers that may be gossiped on a topic, however many, the oldest first
+-- all identifiers that may be gossiped on a topic, without a limit, the oldest first
 abbrev pub gossipable : Peer → Entries → Topic → List MsgId
 gossipable p L t =
     filter (λ id. is_gossiped p.params.timing.mcache_gossip t (kept (windows p) L id)) (keeping_order L)
 
--- A message is kept as one of a topic, and its age is below the number of heartbeats for which messages are gossiped.
+-- A message is kept under a topic, and its age is below the number of heartbeats for which messages are gossiped.
 pub record IsKeptOn (p : Peer) (L : Entries) (t : Topic) (id : MsgId) : Type 0 where
   pub found : Keeping
   pub is_kept : kept (windows p) L id ≡ Some found
   pub on_topic : same_topic found.topic t ≡ true
   pub young : found.age < p.params.timing.mcache_gossip
 
--- how many of n neighbours are sent gossip: a part of them, and at least `d_lazy`, or all where there are fewer
--- (gossipsub v1.1, "Adaptive Gossip Dissemination")
+-- how many of n neighbours are sent gossip: a part of them, and at least `d_lazy`, or all if there are fewer (gossipsub
+-- v1.1, "Adaptive Gossip Dissemination")
 abbrev pub gossip_size : Peer → ℕ → ℕ
 gossip_size p n = min n (max p.params.degrees.d_lazy (p.params.factors.gossip_factor * n / 1_000_000))

@@ -1,4 +1,4 @@
--- How what one peer says to another falls into rounds, and what there is to hear in it.
+-- How the things that one peer says to another are split into rounds, and what there is to hear in them.
 use Rattle.std.specs.Prelude.{◌≡◌, ℕ, zero, suc, Bool, true, false, nat_eq, if◌then◌else◌, List, [], ◌∷◌, ◌++◌}
 use Rattle.gs_base.specs.declared.rpc.Rpc.{Rpc}
 use Rattle.gs_wire.specs.declared.frames.End.{End}
@@ -9,14 +9,14 @@ use Rattle.gs_rules.specs.Saying.{Byte, EndOf, Close, Said, bytes_of}
 
 -- ---- rounds
 
--- what stands before the end of round r; a close ends it
+-- what comes before the end of round r; a close ends it
 abbrev pub front : ℕ → Said → Said
 front r [] = []
 front r (Byte b ∷ w) = Byte b ∷ front r w
 front r (EndOf k ∷ w) = if nat_eq k r then [] else front r w
 front r (Close ∷ w) = Close ∷ []
 
--- what stands after the end of round r; a close stays where it comes before that
+-- what comes after the end of round r; an earlier close stays
 abbrev pub behind : ℕ → Said → Said
 behind r [] = []
 behind r (Byte b ∷ w) = behind r w
@@ -50,11 +50,11 @@ closes (Close ∷ w) = true
 abbrev pub Spell : List ℕ → List Rpc → Type 0
 Spell bytes rpcs = (rest : List ℕ) × (end : End) × IsStream longest_body bytes rpcs rest end
 
--- What there is to hear of a neighbour in a round.
+-- What there is to hear from a neighbour in a round.
 pub record Inbound : Type 0 where
-  -- the RPCs whose last byte stands in it
+  -- the RPCs whose last byte is in it
   pub rpcs : List Rpc
-  -- what is left after them, and how that goes on
+  -- the bytes that are left after them, and how these go on
   pub rest : List ℕ
   pub end : End
   -- whether the neighbour closes its link

@@ -22,12 +22,12 @@ use Rattle.gs_rules.specs.Modes.{Mode, Follows, free}
 
 -- ---- what may be begun
 
--- an RPC is heard whose sender is up, and which fits a frame, as all that a reader gives does
+-- an RPC may be heard if its sender is up and it fits a frame; each RPC from a reader fits one
 pub record MayHear (L : Entries) (q : PeerNo) (rpc : Rpc) : Type 0 where
   pub is_up : up L q ≡ true
   pub fits : codec.fits rpc ≡ true
 
--- the peer may be subscribed to one topic more, or was subscribed to this one
+-- the peer may be subscribed to one more topic, or was subscribed to this one before
 abbrev pub has_room_for : Entries → Topic → Bool
 has_room_for L t = list_any (same_topic t) (known L) || nat_lt (length (known L)) most_topics
 
@@ -50,7 +50,7 @@ pub record MayPublish (p : Peer) (L : Entries) (at : ℕ) (t : Topic) (payload :
   pub fits : codec.fits (publication t payload) ≡ true
   pub unseen : seen (seen_ttl p) L (message_id payload) at ≡ None
 
--- the act may come at this moment; a neighbour's link is closed, or has bytes put on it, while that is up
+-- the act may come at this moment; a neighbour's link is closed, or gets raw bytes, only while the neighbour is up
 abbrev pub MayAct : Peer → Entries → ℕ → Act → Type 0
 MayAct p L at (Subscribe t) = MaySubscribe L t
 MayAct p L at (Unsubscribe t) = MayUnsubscribe L t
@@ -58,8 +58,8 @@ MayAct p L at (Publish t payload) = MayPublish p L at t payload
 MayAct p L at (Raw q bytes) = up L q ≡ true
 MayAct p L at (HangUp q) = up L q ≡ true
 
--- The event may come at this moment, where nothing is owed. A part of an RPC and a step of a heartbeat come only where
--- they are owed, and a neighbour is lost while it is up.
+-- The event may come at this moment, where nothing is owed. A part of an RPC and a step of a heartbeat come only where they
+-- are owed. A neighbour is lost only while it is up.
 abbrev pub MayOpen : Peer → Entries → ℕ → Event → Type 0
 MayOpen p L at (Heard q rpc) = MayHear L q rpc
 MayOpen p L at (Late q rpc) = up L q ≡ false
@@ -74,7 +74,7 @@ MayOpen p L at Shut = is_shut L ≡ false
 
 -- ---- legal traces
 
--- the event is the first that is owed; where nothing is, it may be any that may open
+-- the event is the first one that is owed; if none is owed, it may be any that may open
 abbrev pub IsNext : Peer → Entries → ℕ → List Event → Event → Type 0
 IsNext p L at [] event = MayOpen p L at event
 IsNext p L at (first ∷ rest) event = event ≡ first
@@ -94,13 +94,13 @@ LegalOn m p s K (e ∷ L) t = (u : m.State) × LegalOn m p s K L u × IsAllowed 
 abbrev pub Legal : Peer → Entries → Type 0
 Legal p L = LegalOn free p tt [] L tt
 
--- ---- what comes of a neighbour
+-- ---- what comes from a neighbour
 
 -- an RPC is heard while its sender is up
 abbrev pub hearing : Entries → PeerNo → Rpc → Event
 hearing L q rpc = if up L q then Heard q rpc else Late q rpc
 
--- an event by which a neighbour is lost comes while that is up
+-- an event that loses a neighbour comes only while the neighbour is up
 abbrev pub losing : Entries → PeerNo → Event → Option Event
 losing L q event = if up L q then Some event else None
 

@@ -1,5 +1,4 @@
--- Who may come into a mesh, and what it leaves to be remembered that neighbours come into one or leave it, whatever the
--- event.
+-- Who may enter a mesh, and which facts to remember when neighbours enter or leave one, at any event.
 use Rattle.std.specs.Prelude.{ℕ, ◌+◌, ◌*◌, min, pos, int_lt, Bool, not, ◌&&◌, nat_eq, nat_le, if◌then◌else◌, List, [], ◌∷◌, ◌++◌, map, filter}
 use Rattle.std.specs.List.{flat_map, list_any}
 use Rattle.gs_base.specs.declared.names.PeerNo.{PeerNo}
@@ -17,14 +16,13 @@ use Rattle.gs_rules.specs.Tables.{Entries, last_millis, on, up}
 use Rattle.gs_rules.specs.Meshes.{backoff, fanout, mesh, mesh_topics}
 use Rattle.gs_rules.specs.Scoring.{history, score}
 
--- ---- who may come
+-- ---- who may enter
 
 -- it scores below 0
 abbrev pub is_negative : Peer → Entries → ℕ → PeerNo → Bool
 is_negative p L at q = int_lt (score p L at q) (pos 0)
 
--- a neighbour may be grafted that is not explicit, is up, on the topic, not in its mesh, not in backoff, and that doesn't
--- score below 0
+-- a neighbour may be grafted if it is up, on the topic, not explicit, not in the mesh, not in backoff, and not negative
 abbrev pub is_candidate : Peer → Entries → ℕ → Topic → PeerNo → Bool
 is_candidate p L at t q =
     not (is_explicit p q)
@@ -37,14 +35,14 @@ candidates p L at t = filter (is_candidate p L at t) (links_of p)
 abbrev pub is_outbound : Peer → PeerNo → Bool
 is_outbound p q = list_any (λ (n : Neighbour). same_peer q n.peer && n.outbound) p.neighbours
 
--- ---- to come and to leave
+-- ---- entering and leaving
 
--- these come into the meshes of these topics
+-- these enter the meshes of these topics
 abbrev pub entering : List (PeerNo × Topic) → List Mark
 entering pairs = map (λ (x : PeerNo × Topic). Grafted x.0 x.1) pairs
 
--- what a neighbour is charged with that leaves the mesh of a topic: what is missing of its deliveries there, squared,
--- if anything is (gossipsub v1.1, Peer Scoring, P3b)
+-- what a neighbour is charged with when it leaves the mesh of a topic: its missing deliveries there, squared, if any are
+-- (gossipsub v1.1, Peer Scoring, P3b)
 abbrev pub missing : Peer → Entries → ℕ → PeerNo × Topic → ℕ
 missing p L at x = p3 (rules_of p.params x.1) at (held_by p.params (history p L) x.0 x.1)
 
@@ -55,24 +53,24 @@ deficit_marks p L at x = if nat_eq (missing p L at x) 0 then [] else Deficit x.0
 abbrev pub leaving : Peer → Entries → ℕ → List (PeerNo × Topic) → List Mark
 leaving p L at pairs = map (λ (x : PeerNo × Topic). Pruned x.0 x.1) pairs ++ flat_map (deficit_marks p L at) pairs
 
--- these are not to come back for this many seconds
+-- these must not come back for this many seconds
 abbrev pub barring : ℕ → ℕ → List (PeerNo × Topic) → List Mark
 barring at seconds pairs =
     map (λ (x : PeerNo × Topic). Backoff x.0 x.1 (record { 0 = min last_millis (at + 1_000 * seconds) })) pairs
 
--- these come into the fanout of a topic, and these leave it
+-- these enter the fanout of a topic, or leave it
 abbrev pub fanning : Topic → List PeerNo → List Mark
 fanning t qs = map (λ q. Fanned q t) qs
 
 abbrev pub unfanning : Topic → List PeerNo → List Mark
 unfanning t qs = map (λ q. Unfanned q t) qs
 
--- ---- whom it concerns
+-- ---- who is affected
 
 abbrev pub each_on : Topic → List PeerNo → List (PeerNo × Topic)
 each_on t qs = map (λ q. (q, t)) qs
 
--- where a neighbour is in the mesh, of these topics
+-- a neighbour with each of these topics that has it in its mesh
 abbrev pub meshes_with : Entries → PeerNo → List Topic → List (PeerNo × Topic)
 meshes_with L q ts = map (λ t. (q, t)) (filter (λ t. is_among (mesh L t) q) ts)
 

@@ -25,16 +25,16 @@ use Rattle.gs_rules.specs.Membership.{barring, candidates, each_on, entering, fa
 use Rattle.gs_rules.specs.Scoring.{is_passed_over}
 use Rattle.gs_rules.specs.Rule.{AnyOf, Gives, Rule, no_effects, explicit_listeners, ordinary_listeners, to_each, together_with, up_neighbours, without}
 
--- ---- what neighbours say of their meshes (gossipsub v1.0, "Control messages", GRAFT and PRUNE)
+-- ---- what neighbours say about their meshes (gossipsub v1.0, "Control messages", GRAFT and PRUNE)
 
--- a GRAFT is refused: its sender is sent a PRUNE, and is not to come back for a while
+-- a GRAFT is refused: its sender is sent a PRUNE, and must not come back for a while
 abbrev pub refusing : Peer → Millis → PeerNo → Topic → List Mark → Effects
 refusing p at q t marks = record no_effects {
   sends = (q, pruning t p.params.timing.prune_backoff_s) ∷ [];
   marks = marks ++ barring at.0 p.params.timing.prune_backoff_s (each_on t (q ∷ []));
 }
 
--- its sender comes into the mesh
+-- its sender enters the mesh
 abbrev pub taking : PeerNo → Topic → Effects
 taking q t = record no_effects { marks = entering (each_on t (q ∷ [])) }
 
@@ -43,9 +43,9 @@ abbrev pub is_full_for : Peer → Entries → PeerNo → Topic → Bool
 is_full_for p L q t =
     if nat_le p.params.degrees.d_high (length (mesh L t)) then not (is_outbound p q) else false
 
--- A GRAFT on a topic that the peer isn't subscribed to, or of a member, is passed over. One of an explicit neighbour is
--- refused, whenever it comes. One that comes too soon is refused, and counts against its sender. One is refused, too,
--- where its sender scores below 0 or there is no room for it.
+-- A GRAFT is ignored if the peer isn't subscribed to the topic, or if it comes from a member. One from an explicit
+-- neighbour is refused, whenever it comes. One that comes too soon is refused, and counts against its sender. One is also
+-- refused if its sender scores below 0, or if the mesh has no room for it.
 abbrev pub graft_answer : Peer → Entries → ℕ → PeerNo → Topic → GraftAnswer
 graft_answer p L at q t =
     if not (joined L t) then PassedOver
@@ -71,8 +71,8 @@ graft_effects p at q t Taken = taking q t
 abbrev pub graft_rule : Peer → Entries → Millis → PeerNo → Topic → Effects
 graft_rule p L at q t = graft_effects p at q t (graft_answer p L at.0 q t)
 
--- for how many seconds the sender of a PRUNE is not to be grafted: those that it names, up to a day, and
--- `otherwise` where it names none or 0
+-- for how many seconds the sender of a PRUNE must not be grafted: those that it names, up to a day, else `otherwise`;
+-- naming 0 is naming none
 abbrev pub asked_backoff : ℕ → Option ℕ → ℕ
 asked_backoff otherwise None = otherwise
 asked_backoff otherwise (Some seconds) = if nat_eq seconds 0 then otherwise else min seconds longest_backoff
@@ -93,7 +93,7 @@ prune_rule p L at q prune =
 
 -- ---- who leaves
 
--- who is in the fanout, of these
+-- the given peer, if it is in the fanout
 abbrev pub fanned_of : Entries → Topic → PeerNo → List PeerNo
 fanned_of L t q = if is_among (fanout L t) q then q ∷ [] else []
 
@@ -104,7 +104,7 @@ left_by p L at q sub = record no_effects {
       ++ unfanning (topic_or_empty sub.topic) (fanned_of L (topic_or_empty sub.topic) q);
 }
 
--- to come onto a topic changes nothing else
+-- a neighbour that joins a topic changes nothing else
 abbrev pub sub_rule : Peer → Entries → Millis → PeerNo → SubOpt → Effects
 sub_rule p L at q sub = if unwrap_or sub.subscribe false then no_effects else left_by p L at q sub
 
@@ -127,14 +127,14 @@ joining p L t chosen = record no_effects {
   marks = entering (each_on t chosen) ++ unfanning t (fanout L t);
 }
 
--- Any d of the fanout's members that may be grafted, or all of them; then any others that may, up to d.
+-- Any d of the fanout's members that may be grafted, or all of them, are grafted; then any others that may be, up to d.
 abbrev pub subscribe_rule : Peer → Entries → Millis → Topic → Rule
 subscribe_rule p L at t =
     AnyOf p.params.degrees.d (those_among (fanout L t) (candidates p L at.0 t)) (λ first.
     AnyOf (p.params.degrees.d - length first) (those_outside (fanout L t) (candidates p L at.0 t)) (λ others.
     Gives (joining p L t (those_among (first ++ others) (candidates p L at.0 t)))))
 
--- Each member is pruned, and is not to come back for a while.
+-- Each member is pruned, and must not come back for a while.
 abbrev pub unsubscribe_rule : Peer → Entries → Millis → Topic → Effects
 unsubscribe_rule p L at t = record no_effects {
   sends = to_each (announcement false t) (up_neighbours p L)
@@ -164,8 +164,8 @@ publishing p L t payload chosen fanout = record no_effects {
 abbrev pub receivers : Peer → Entries → ℕ → Topic → List PeerNo
 receivers p L at t = without (is_passed_over p L at) (ordinary_listeners p L t)
 
--- Of a topic that the peer isn't subscribed to the fanout gets it; where that is empty, any d of those that may be in it
--- become it.
+-- On a topic that the peer isn't subscribed to, the fanout gets the payload. If the fanout is empty, any d of the
+-- neighbours that may be in it become it.
 abbrev pub fanout_publish : Peer → Entries → Millis → Topic → List ℕ → List PeerNo → Rule
 fanout_publish p L at t payload [] =
     AnyOf p.params.degrees.d (receivers p L at.0 t) (λ chosen.
@@ -173,9 +173,9 @@ fanout_publish p L at t payload [] =
 fanout_publish p L at t payload (q ∷ qs) =
     Gives (publishing p L t payload (without (is_passed_over p L at.0) (q ∷ qs)) Kept)
 
--- An explicit neighbour on the topic gets it whatever it scores. Any other that is below the threshold gets nothing. By
--- flood publishing (gossipsub v1.1) every neighbour on the topic gets it; else the topic's mesh, or its fanout, where the
--- peer isn't subscribed.
+-- An explicit neighbour on the topic gets it whatever it scores. Any other that is below the threshold gets nothing. With
+-- flood publishing (gossipsub v1.1) every neighbour on the topic gets it. Else the topic's mesh gets it, or its fanout if
+-- the peer isn't subscribed.
 abbrev pub publish_rule : Peer → Entries → Millis → Topic → List ℕ → Rule
 publish_rule p L at t payload =
     if p.params.flood_publish

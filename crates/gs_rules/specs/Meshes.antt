@@ -1,5 +1,5 @@
--- The meshes and fanouts of topics, and who is not to be grafted yet, as a trace has them (gossipsub v1.0, "Router
--- State"; v1.1, "Prune Backoff").
+-- The meshes and fanouts of topics, and who must not be grafted yet, by a trace (gossipsub v1.0, "Router State"; v1.1,
+-- "Prune Backoff").
 use Rattle.std.specs.Prelude.{ℕ, ◌+◌, nat_le, max, Bool, false, not, ◌&&◌, ◌||◌, if◌then◌else◌, List, [], ◌∷◌, ◌++◌, filter, Option, Some, None, is_some}
 use Rattle.std.specs.List.{list_any}
 use Rattle.gs_base.specs.declared.names.PeerNo.{PeerNo}
@@ -25,7 +25,7 @@ mesh_after t (Grafted q u) before = if same_topic u t then put_in q before else 
 mesh_after t (Pruned q u) before = if same_topic u t then without q before else before
 mesh_after t other before = before
 
--- who is in the mesh of a topic, ascending: whoever came into it last, and has not left it since
+-- who is in the mesh of a topic, ascending: each peer that entered it, and has not left it since
 abbrev pub mesh : Entries → Topic → List PeerNo
 mesh [] t = []
 mesh (e ∷ L) t = after_marks (mesh_after t) e.effects.marks (mesh L t)
@@ -44,8 +44,8 @@ dropped_by_step t none (FanEnd u) before = if same_topic u t then none else befo
 dropped_by_step t none (GossipBeat u) before = before
 dropped_by_step t none BeatEnd before = before
 
--- to subscribe to a topic ends its fanout, and so does a heartbeat once its time has come. That is an event of its
--- own (`FanEnd`, beside `FanBeat`), so that one rule judges its entry, and a table needs no `fanout_ttl_ms`.
+-- subscribing to a topic ends its fanout, and so does a heartbeat after the fanout's time. The latter is a separate event
+-- (`FanEnd`, not `FanBeat`). So one rule judges its entry, and a table needs no `fanout_ttl_ms`.
 abbrev pub dropped_after : {A : Type 0} → Topic → A → Event → A → A
 dropped_after t none event before =
     of_act (λ act. dropped_by_act t none act before)
@@ -81,7 +81,7 @@ abbrev pub ever_fanned : Entries → List Topic
 ever_fanned [] = []
 ever_fanned (e ∷ L) = after_marks fanned_topics_after e.effects.marks (ever_fanned L)
 
--- a topic has a fanout while it is known when the peer last published on it, and a mesh while the peer is subscribed to it
+-- a topic has a fanout while a last publication is known for it, and a mesh while the peer is subscribed to it
 abbrev pub has_fanout : Entries → Topic → Bool
 has_fanout L t = is_some (last_published L t)
 
@@ -101,21 +101,21 @@ abbrev pub is_stale : ℕ → ℕ → Option ℕ → Bool
 is_stale ttl at None = false
 is_stale ttl at (Some published) = nat_le (published + ttl) at
 
--- ---- who is not to be grafted
+-- ---- who must not be grafted
 
--- of several ends the latest stands
+-- of several ends the latest counts
 abbrev pub backoff_after : PeerNo → Topic → Mark → ℕ → ℕ
 backoff_after q t (Backoff p u end) before = if same_peer p q && same_topic u t then max end.0 before else before
 backoff_after q t other before = before
 
--- before which moment a neighbour is not to be in the mesh of a topic: 0 where it always may
+-- before which moment a neighbour must not enter the mesh of a topic: 0 if it always may
 abbrev pub backoff : Entries → PeerNo → Topic → ℕ
 backoff [] q t = 0
 backoff (e ∷ L) q t = after_marks (backoff_after q t) e.effects.marks (backoff L q t)
 
 -- ---- who passed a message on
 
--- whether a mark says of a neighbour that it passed on a message, first or near the first
+-- whether a mark says that a neighbour passed on a message, first or near the first
 abbrev pub notes : MsgId → PeerNo → Mark → Bool
 notes id q (First p t other) = same_peer p q && same_id other id
 notes id q (Near p t other) = same_peer p q && same_id other id
@@ -126,9 +126,9 @@ abbrev pub sees : MsgId → Mark → Bool
 sees id (Seen other verdict) = same_id other id
 sees id other = false
 
--- Whether a neighbour passed on a message, first or near the first, since it was marked as seen last. The marks of
--- one entry are asked in no order, since they may stand in any (`SaysTheSame`): an entry that marks a message as
--- seen says with it who was first, and none notes a neighbour for an earlier sighting beside that.
+-- Whether a neighbour passed on a message, first or near the first, since it was marked as seen last. The order of the
+-- marks of one entry does not count, since it may be any (`SaysTheSame`). An entry that marks a message as seen also says
+-- who was first. It has no note of a neighbour for an earlier sighting.
 abbrev pub noted : Entries → MsgId → PeerNo → Bool
 noted [] id q = false
 noted (e ∷ L) id q = list_any (notes id q) e.effects.marks || (not (list_any (sees id) e.effects.marks) && noted L id q)

@@ -10,8 +10,7 @@ use Rattle.gs_params.specs.Picks.{IsAscending, IsSample, picked, picked_words, p
 use Rattle.gs_rules.specs.declared.trace.Effects.{Effects}
 use Rattle.gs_rules.specs.Rules.{Rule, Gives, AnyOf, CutOf, OneOf}
 
--- How choices are made: what they are made by, which they are, what is left after them, and how near effects must
--- come to what a rule gives.
+-- How choices are made: by what, which ones, what is left after them, and how near effects must come to what a rule gives.
 pub record Mode : Type 1 where
   pub State : Type 0
   pub Picks : ℕ → List PeerNo → State → List PeerNo → State → Type 0

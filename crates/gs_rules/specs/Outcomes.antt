@@ -1,4 +1,4 @@
--- What becomes of a message that a neighbour passes on, and the effects of that.
+-- What happens to a message that a neighbour passes on, and the effects of that.
 use Rattle.std.specs.Prelude.{ℕ, ◌-◌, Bool, false, not, ◌&&◌, nat_eq, nat_le, if◌then◌else◌, List, [], ◌∷◌, ◌++◌, Option, Some, None}
 use Rattle.std.specs.List.{list_any, starts_with}
 use Rattle.std.specs.Map.{lookup}
@@ -28,8 +28,8 @@ use Rattle.gs_rules.specs.Rule.{no_effects, explicit_listeners, to_each, togethe
 abbrev pub begins_with_one : List (List ℕ) → List ℕ → Bool
 begins_with_one prefixes payload = list_any (λ prefix. starts_with nat_eq payload prefix) prefixes
 
--- What a payload is found to be by the parameters of its topic (gossipsub v1.1, "Extended Validators"): to reject goes
--- before to ignore, and where none are given it is accepted.
+-- What a payload is found to be by the parameters of its topic (gossipsub v1.1, "Extended Validators"): rejecting goes
+-- before ignoring, and without parameters it is accepted.
 abbrev pub verdict_by : Option TopicParams → List ℕ → Verdict
 verdict_by None payload = Accept
 verdict_by (Some params) payload =

@@ -50,13 +50,14 @@ events_in p L MeshBeats = map (λ t. Step (MeshBeat t)) (own_topics L)
 events_in p L (FanBeats at) = map (fan_event p L at) (fanout_topics L)
 events_in p L Gossips = beats (gossip_topics p L)
 
--- What a heartbeat does at a moment, in order: the mesh of each topic that the peer is subscribed to, each fanout, and the
--- gossip of each topic on which there is some; then it ends. Within a group topics ascend (gossipsub v1.0, "Heartbeat").
+-- What a heartbeat does at a moment, in order. It mends the mesh of each topic that the peer is subscribed to, then each
+-- fanout. It gossips on each topic on which there is something, and then ends. Within a group topics ascend (gossipsub
+-- v1.0, "Heartbeat").
 abbrev pub heartbeat_groups : ℕ → List Group
 heartbeat_groups at = MeshBeats ∷ FanBeats at ∷ Gossips ∷ []
 
--- The groups that an event owes if it comes after this trace at a moment. Whoever is on the graylist is heard in vain
--- (gossipsub v1.1, Peer Scoring, "Score Thresholds").
+-- The groups that an event owes if it comes after this trace at a moment. An RPC from a neighbour on the graylist owes
+-- nothing (gossipsub v1.1, Peer Scoring, "Score Thresholds").
 abbrev pub owes : Peer → Entries → ℕ → Event → List Group
 owes p L at (Heard q rpc) = if is_graylisted p L at q then [] else PartsOf q rpc ∷ []
 owes p L at BeatBegin = heartbeat_groups at

@@ -1,5 +1,5 @@
--- The parts of an RPC as events: in which order they come, and what is asked of a part by its kind. A kind of control
--- message has a line in each of these, and its rule in Rules.antt.
+-- The parts of an RPC as events: in which order they come, and what each kind of part is. A kind of control message has a
+-- line in each of these, and its rule in Rules.antt.
 use Rattle.std.specs.Prelude.{◌≡◌, true, List, [], ◌++◌, map, Option, Some, None}
 use Rattle.gs_base.specs.declared.names.PeerNo.{PeerNo}
 use Rattle.gs_base.specs.declared.rpc.Message.{Message}
@@ -41,9 +41,9 @@ after_subs q rpc = events_of Msg q rpc.publish ++ after_messages q rpc
 abbrev pub parts : PeerNo → Rpc → List Event
 parts q rpc = events_of Sub q rpc.subs ++ after_subs q rpc
 
--- ---- what is asked of a part
+-- ---- what a part is
 
--- the change of a subscription that it is, if it is one
+-- the change of a subscription, if the part is one
 abbrev pub subscription_in : RpcPart → Option SubOpt
 subscription_in (Sub sub) = Some sub
 subscription_in (Msg m) = None
@@ -52,7 +52,7 @@ subscription_in (Want request) = None
 subscription_in (GraftIn graft) = None
 subscription_in (PruneIn prune) = None
 
--- the message that it is, if it is one
+-- the message, if the part is one
 abbrev pub brought_by : RpcPart → Option Message
 brought_by (Sub sub) = None
 brought_by (Msg m) = Some m
@@ -61,7 +61,7 @@ brought_by (Want request) = None
 brought_by (GraftIn graft) = None
 brought_by (PruneIn prune) = None
 
--- a message or a GRAFT is of a neighbour: other parts leave no marks that count whoever they are of
+-- a message or a GRAFT is from a neighbour; other parts leave no marks that count for any sender
 abbrev pub IsPartFromNeighbour : Peer → PeerNo → RpcPart → Type 0
 IsPartFromNeighbour p q (Msg m) = is_neighbour p q ≡ true
 IsPartFromNeighbour p q (GraftIn graft) = is_neighbour p q ≡ true

@@ -6,8 +6,8 @@ use Rattle.gs_base.specs.Names.{peers_of, same_peer}
 use Rattle.gs_params.specs.declared.params.Params.{Params}
 use Rattle.gs_mesh.specs.Peers.{is_among}
 
--- What is given of a peer, and stays as it is. No codec stands here: what is written on links is the codec's, and a
--- trace holds RPCs as values. The rules name the one codec where it counts whether an RPC fits a frame.
+-- What is given for a peer, and never changes. It has no codec: only the codec knows what is written on links, and a trace
+-- holds RPCs as values. The rules name the one codec where it matters whether an RPC fits a frame.
 pub record Peer : Type 0 where
   pub params : Params
   -- ascending by number
@@ -33,6 +33,6 @@ is_explicit p q = is_among (explicit_of p) q
 abbrev pub seen_ttl : Peer → ℕ
 seen_ttl p = p.params.timing.seen_ttl_ms
 
--- for how many heartbeats a message is kept: one at least, as checked parameters say
+-- for how many heartbeats a message is kept: at least one, by checked parameters
 abbrev pub windows : Peer → ℕ
 windows p = max 1 p.params.timing.mcache_len

@@ -44,7 +44,7 @@ act_reasons p L at (Publish t payload) =
 act_reasons p L at (HangUp q) = (not (up L q), NotOpen) ∷ []
 act_reasons p L at (Raw q bytes) = (not (up L q), NotOpen) ∷ []
 
--- What may stand in the way of an event, where nothing is owed. What comes of a neighbour is never refused, nor is what
+-- What may stand in the way of an event, where nothing is owed. What comes from a neighbour is never refused, nor is what
 -- is owed.
 abbrev pub reasons : Peer → Entries → ℕ → Event → List (Bool × Refusal)
 reasons p L at (Own act) = (is_shut L, Stopped) ∷ act_reasons p L at act

@@ -22,7 +22,7 @@ use Rattle.gs_wire.specs.Joining.{joined_options, joined_rpcs}
 use Rattle.gs_rules.specs.Saying.{Said, SaysOnlyFrames, gathered, handled, out, raw_to, sent}
 use Rattle.gs_rules.specs.Hearing.{Inbound, ComesIn, ComesAfter}
 
--- ---- a seat
+-- ---- what a peer is given
 
 -- What a peer is given in a run.
 pub record Seat : Type 0 where
@@ -34,7 +34,7 @@ pub record Seat : Type 0 where
   pub round_ms : ℕ
   pub rounds : ℕ
 
--- Where it is: in a round, or after the last one.
+-- Where a peer is: in a round, or after the last one.
 pub data Phase : Type 0 where
   Playing : ℕ → Phase
   Closing : Phase
@@ -48,7 +48,7 @@ moment_of seat Closing = record { 0 = seat.rounds * seat.round_ms }
 
 pub data Todo : Type 0 where
   Hear : PeerNo → Rpc → Todo
-  -- a neighbour's bytes spell no RPC, or end within one
+  -- a neighbour's bytes spell no RPC, or end inside one
   HearFault : PeerNo → Todo
   -- a neighbour has closed its link
   HearGone : PeerNo → Todo
@@ -77,7 +77,7 @@ ending q x = if is_broken x then HearFault q ∷ [] else if x.closes then HearGo
 abbrev pub hears_of : PeerNo → Inbound → List Todo
 hears_of q x = map (Hear q) x.rpcs ++ ending q x
 
--- what comes of each neighbour, one neighbour after the other
+-- what comes from each neighbour, one neighbour after the other
 abbrev pub hears : List PeerNo → List Inbound → List Todo
 hears qs xs = flat_map (λ y. hears_of y.0 y.1) (zip qs xs)
 
@@ -103,8 +103,8 @@ decays_in p r at = if is_due p.params.timing.decay_ms r at then DecayCounters �
 abbrev pub beats_in : Peer → ℕ → Millis → List Todo
 beats_in p r at = if is_due p.params.timing.heartbeat_ms r at then Beat ∷ [] else []
 
--- In a round a peer hears what came, follows its lines, lowers its counters and has a heartbeat, each if it is due, and
--- ends the round. After the last one it shuts down, and then hears what still comes.
+-- In a round a peer hears what came and follows its lines. It lowers its counters and has a heartbeat, each if it is due,
+-- and ends the round. After the last round it shuts down, and then hears what still comes.
 abbrev pub agenda : Seat → Phase → List Inbound → List Todo
 agenda seat (Playing r) xs =
     hears (links_of seat.peer) xs
@@ -124,7 +124,7 @@ unless_refused event (Some why) = None
 abbrev pub PutsNoBytes : PeerNo → List (ℕ × Line) → Type 0
 PutsNoBytes q lines = AllByRecursion (λ (x : ℕ × Line). raw_to q (events.Own x.1.what) ≡ []) lines
 
--- the event that it opens after a trace, if any
+-- the event that a thing to do opens after a trace, if any
 abbrev pub opening : Peer → Entries → Millis → Todo → Option Event
 opening p L at (Hear q rpc) = Some (hearing L q rpc)
 opening p L at (HearFault q) = losing L q (events.Lost q losses.Fault)
@@ -139,7 +139,7 @@ abbrev pub note_of : Millis → ℕ → Option Refusal → List RefusedLine
 note_of at place None = []
 note_of at place (Some why) = record { at = at; line = place; why = why } ∷ []
 
--- what is noted of it after a trace, where it is refused
+-- what is noted about it after a trace, if it is refused
 abbrev pub noted : Peer → Entries → Millis → Todo → List RefusedLine
 noted p L at (Obey place what) = note_of at place (refusal p L at.0 (events.Own what))
 noted p L at (Hear q rpc) = []
@@ -150,7 +150,7 @@ noted p L at Beat = []
 noted p L at (EndRound r) = []
 noted p L at Stop = []
 
--- it is done in order, at one moment, and this is refused
+-- these things are done in order, at one moment, and this is refused
 abbrev pub Does : Peer → Millis → List Todo → Entries → Entries → List RefusedLine → Type 0
 Does p at [] K L refused = (L ≡ K) × (refused ≡ [])
 Does p at (todo ∷ todos) K L refused =
@@ -161,12 +161,12 @@ Does p at (todo ∷ todos) K L refused =
 
 -- ---- rounds
 
--- what there is to hear in a phase of one neighbour that says this
+-- what there is to hear in a phase from one neighbour that says this
 abbrev pub ComesAt : Seat → Phase → Said → Inbound → Type 0
 ComesAt seat (Playing r) w x = ComesIn r w x
 ComesAt seat Closing w x = ComesAfter seat.rounds w x
 
--- In a phase a peer does all that there is to do, where its neighbours say this.
+-- In a phase a peer does all that there is to do, if its neighbours say this.
 pub record Plays (seat : Seat) (said : PeerNo → Said) (phase : Phase)
     (K L : Entries) (refused : List RefusedLine) : Type 0 where
   pub inbound : List Inbound
@@ -212,8 +212,8 @@ pub record KeepsSoFar (seat : Seat) (said : PeerNo → Said) (phase : Phase) (le
   pub part : PlaysInPart seat said phase left start L more
   pub all_refused : refused ≡ earlier ++ more
 
--- where q says what some legal trace says that puts only frames on this link, what was handled of q, joined, is
--- what that trace sends, joined, but for what it has gathered and not yet put out
+-- q says what a legal trace says that puts only frames on this link: then what was handled from q, joined, is what that
+-- trace sends, joined, except for what it has gathered and not yet put out
 abbrev pub HandlesWhatIsSent : Seat → (PeerNo → Said) → Entries → PeerNo → Type 0
 HandlesWhatIsSent seat said L q =
     (other : Peer) (K : Entries)
@@ -222,7 +222,7 @@ HandlesWhatIsSent seat said L q =
     → said q ≡ out codec K seat.number
     → joined_options (joined_rpcs (handled L q)) (gathered codec K seat.number) ≡ joined_rpcs (sent K seat.number)
 
--- A whole life: the rounds 0 to the last, and the close.
+-- A peer's whole run: the rounds 0 to the last, and the close.
 pub record KeepsRounds (seat : Seat) (said : PeerNo → Said) (L : Entries) (refused : List RefusedLine) : Type 0 where
   pub last : Entries
   pub played : AfterRounds seat said (suc seat.rounds) last refused

@@ -16,7 +16,7 @@ use Rattle.gs_rules.specs.Tables.{Entries, on, up}
 pub data Rule : Type 0 where
   -- these effects, and nothing is chosen
   Gives : Effects → Rule
-  -- any of these peers: this many, or all where there are fewer
+  -- any of these peers: this many, or all if there are fewer
   AnyOf : ℕ → List PeerNo → (List PeerNo → Rule) → Rule
   -- who is kept of a mesh with too many members: `d` members, the best by score among them, equal scores as it likes
   CutOf : Degrees → List Member → (List PeerNo → Rule) → Rule

@@ -35,7 +35,7 @@ use Rattle.gs_rules.specs.MeshRules.{graft_rule, lost_rule, prune_rule, publish_
 
 -- ---- offers (gossipsub v1.0, "Control messages", IHAVE)
 
--- an offer that counts, without more
+-- an offer that counts, and nothing else
 abbrev pub counted : PeerNo → Effects
 counted q = record no_effects { marks = Offered q ∷ [] }
 
@@ -47,7 +47,7 @@ is_wanted p L at bytes =
 abbrev pub same_bytes : List ℕ → List ℕ → Bool
 same_bytes xs ys = pointwise nat_eq xs ys
 
--- one more after others, if it is not among them
+-- one more identifier after others, if it is not among them
 abbrev pub once_after : List (List ℕ) → List ℕ → List (List ℕ)
 once_after before id = if list_any (same_bytes id) before then before else before ++ id ∷ []
 
@@ -55,11 +55,11 @@ once_after before id = if list_any (same_bytes id) before then before else befor
 abbrev pub each_once : List (List ℕ) → List (List ℕ)
 each_once ids = fold once_after [] ids
 
--- how many identifiers may be asked of a neighbour beside those that were; a request never has more than an RPC may
+-- how many more identifiers a neighbour may be asked for; a request never has more than an RPC may have
 abbrev pub room_to_ask : Peer → Entries → PeerNo → ℕ
 room_to_ask p L q = min p.params.timing.max_ihave_ids most_identifiers - asked L q
 
--- the identifiers that a neighbour is asked for that offers these
+-- the identifiers that a neighbour is asked for if it offers these
 abbrev pub wanted : Peer → Entries → ℕ → PeerNo → List (List ℕ) → List (List ℕ)
 wanted p L at q ids = take (room_to_ask p L q) (each_once (filter (is_wanted p L at) ids))
 
@@ -81,8 +81,8 @@ asked_for p at q [] = Gives (counted q)
 asked_for p at q (id ∷ ids) =
     OneOf (length (id ∷ ids)) (λ place. Gives (asking p at q (id ∷ ids) place))
 
--- An offer counts where its sender is not ignored, for as long as that has not made too many. On a topic that the peer
--- is not subscribed to nothing is wanted.
+-- An offer counts if its sender is not ignored and has not made too many. If the peer is not subscribed to its topic,
+-- nothing is wanted.
 abbrev pub have_rule : Peer → Entries → Millis → PeerNo → IHave → Rule
 have_rule p L at q offer =
     if is_ignored p L at.0 q then Gives no_effects
@@ -100,8 +100,8 @@ ids_in all = map (λ bytes. record { 0 = bytes }) (filter (λ bytes. nat_eq (len
 abbrev pub times_in : MsgId → List MsgId → ℕ
 times_in id ids = length (filter (same_id id) ids)
 
--- the message that a neighbour gets for an identifier, which stands so often ahead in the same request: the one that
--- is kept, if the neighbour did not get it as often as it may
+-- the message that a neighbour gets for an identifier: the kept one, unless the neighbour got it as often as it may. The
+-- number says how often the identifier came before in the same request.
 abbrev pub answer : Peer → Entries → PeerNo → MsgId → ℕ → Option Message
 answer p L q id ahead =
     if nat_lt (answered L q id + ahead) p.params.timing.gossip_retransmission
@@ -133,7 +133,7 @@ want_rule p L at q request =
 
 -- ---- heartbeats
 
--- at a heartbeat each broken promise counts against who made it
+-- at a heartbeat each broken promise counts against the neighbour that made it
 abbrev pub beat_begin_rule : Peer → Entries → Millis → Effects
 beat_begin_rule p L at = record no_effects { marks = all_charges p L at.0 }
 
@@ -143,8 +143,8 @@ gossiping p L t chosen = record no_effects {
   sends = to_each (offering t (map (λ (id : MsgId). id.0) (gossip p L t))) chosen;
 }
 
--- the neighbours that may be offered what there is on a topic: those that are up, on it, not explicit, outside its mesh
--- and its fanout, and not ignored
+-- the neighbours that may be offered what there is on a topic: up, on it, not explicit, not ignored, and outside its mesh
+-- and its fanout
 abbrev pub gossip_candidates : Peer → Entries → ℕ → Topic → List PeerNo
 gossip_candidates p L at t =
     without (is_ignored p L at) (without (λ q. is_among (mesh L t) q || is_among (fanout L t) q) (ordinary_listeners p L t))

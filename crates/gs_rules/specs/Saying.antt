@@ -1,4 +1,4 @@
--- What a peer says to a neighbour, as bytes, marks of the ends of rounds and a close; and what it has handled of one.
+-- What a peer says to a neighbour, as bytes, marks of the ends of rounds and a close; and what it has handled from one.
 use Rattle.std.specs.Prelude.{◌≡◌, ℕ, Bool, true, false, if◌then◌else◌, List, [], ◌∷◌, ◌++◌, map, Option, Some, None, option_to_list}
 use Rattle.std.specs.List.{flat_map, AllByRecursion}
 use Rattle.gs_base.specs.declared.names.PeerNo.{PeerNo}
@@ -16,7 +16,7 @@ use Rattle.gs_rules.specs.declared.trace.Entry.{Entry}
 use Rattle.gs_rules.specs.Tables.{Entries, cuts_off, up}
 use Rattle.gs_rules.specs.Modes.{sent_to}
 
--- what an event puts after what is sent with it: a round's end, or a close for whoever is lost or for all at a shutdown
+-- what an event puts after its sends: a round's end, or a close, for a lost neighbour or for all at a shutdown
 abbrev pub sign : PeerNo → Event → Said
 sign q event = of_round_end (λ r. EndOf r ∷ []) (if cuts_off q event then Close ∷ [] else []) event
 
@@ -31,7 +31,7 @@ raw_by q (HangUp p) = []
 abbrev pub raw_to : PeerNo → Event → List ℕ
 raw_to q event = of_act (raw_by q) [] event
 
--- these entries put nothing on q's link but frames
+-- these entries put only frames on q's link
 abbrev pub SaysOnlyFrames : PeerNo → List Entry → Type 0
 SaysOnlyFrames q entries = AllByRecursion (λ e. raw_to q e.event ≡ []) entries
 
@@ -46,8 +46,8 @@ pub record Outgoing : Type 0 where
 abbrev pub nothing_outgoing : Outgoing
 nothing_outgoing = record { said = []; gathered = None }
 
--- the RPCs that go out where one more is sent, and the RPC that is gathered then. What is sent is joined to what is
--- gathered, where the two fit one frame. Else what is gathered goes out, and what is sent begins anew.
+-- the RPCs that go out when one more is sent, and the RPC that is gathered then. What is sent is joined to what is
+-- gathered, if both fit one frame. Else what is gathered goes out, and what is sent is gathered instead.
 abbrev pub gather : Codec → Option Rpc → Rpc → List Rpc × Option Rpc
 gather codec None v = ([], Some v)
 gather codec (Some u) v = if codec.fits (joined_rpc u v) then ([], Some (joined_rpc u v)) else (u ∷ [], Some v)
@@ -68,7 +68,7 @@ abbrev pub sending_all : Codec → Outgoing → List Rpc → Outgoing
 sending_all codec o [] = o
 sending_all codec o (v ∷ vs) = sending_all codec (sending codec o v) vs
 
--- at a cut what is gathered goes out as one frame, and where nothing is gathered there is none
+-- at a cut what is gathered goes out as one frame; if nothing is gathered, there is no frame
 abbrev pub cut_out : Codec → Outgoing → Outgoing
 cut_out codec o = record { said = o.said ++ frames_of codec (option_to_list o.gathered); gathered = None }
 
@@ -116,7 +116,7 @@ abbrev pub sent : Entries → PeerNo → List Rpc
 sent [] q = []
 sent (e ∷ L) q = if up L q then sent L q ++ sent_to q e.effects.sends else sent L q
 
--- the RPC of q that an event handles
+-- the RPC from q that an event handles
 abbrev pub handled_by : PeerNo → Event → List Rpc
 handled_by q (Heard p rpc) = if same_peer p q then rpc ∷ [] else []
 handled_by q (Late p rpc) = if same_peer p q then rpc ∷ [] else []
@@ -129,7 +129,7 @@ handled_by q Decay = []
 handled_by q (RoundEnd r) = []
 handled_by q Shut = []
 
--- the RPCs of q that a trace has handled, in order
+-- the RPCs from q that a trace has handled, in order
 abbrev pub handled : Entries → PeerNo → List Rpc
 handled [] q = []
 handled (e ∷ L) q = handled L q ++ handled_by q e.event

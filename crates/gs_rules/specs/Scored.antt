@@ -1,4 +1,4 @@
--- The parts of which a trace makes the score of a neighbour.
+-- The parts of a neighbour's score, by a trace.
 use Rattle.std.specs.Prelude.{ℕ, List}
 use Rattle.gs_base.specs.declared.names.PeerNo.{PeerNo}
 use Rattle.gs_base.specs.declared.names.Topic.{Topic}
@@ -11,7 +11,7 @@ use Rattle.gs_rules.specs.Peers.{Peer}
 use Rattle.gs_rules.specs.Tables.{Entries, ascending}
 use Rattle.gs_rules.specs.Scoring.{history, setting_of}
 
--- the topics on which anything is known of a neighbour, in the order of their bytes
+-- the topics on which anything is known about a neighbour, in the order of their bytes
 abbrev pub topics_of_neighbour : Peer → Entries → PeerNo → List Topic
 topics_of_neighbour p L q = ascending (named (history p L) q)
 

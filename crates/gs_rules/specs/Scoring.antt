@@ -1,5 +1,5 @@
--- The scores of a peer's neighbours (gossipsub v1.1, "Peer Scoring"): what a trace says of each, and what a neighbour of
--- low standing loses.
+-- The scores of a peer's neighbours (gossipsub v1.1, "Peer Scoring"): what a trace says about each, and what a neighbour
+-- with a low score loses.
 use Rattle.std.specs.Prelude.{ℕ, ℤ, int_lt, Bool, true, not, ◌&&◌, ◌||◌, nat_lt, if◌then◌else◌, [], ◌∷◌, length, Option, Some, None}
 use Rattle.std.specs.List.{list_any}
 use Rattle.gs_base.specs.declared.names.PeerNo.{PeerNo}
@@ -19,8 +19,8 @@ use Rattle.gs_rules.specs.Tables.{Entries, after_marks, lost}
 
 -- ---- what happened to the neighbours
 
--- whoever a message or a GRAFT came from is a neighbour: of what neighbours say only these leave marks that count,
--- whoever says it
+-- each message and each GRAFT came from a neighbour; of what neighbours say, only these leave marks that count, whoever
+-- says it
 abbrev pub IsFromNeighbour : Peer → Event → Type 0
 IsFromNeighbour p (Part q part) = IsPartFromNeighbour p q part
 IsFromNeighbour p (Heard q rpc) = Unit {0}
@@ -33,12 +33,12 @@ IsFromNeighbour p Decay = Unit {0}
 IsFromNeighbour p (RoundEnd r) = Unit {0}
 IsFromNeighbour p Shut = Unit {0}
 
--- a neighbour has counters on a topic, or on so few topics that it may have them on one more
+-- a neighbour has counters on a topic, or on few enough topics to have them on one more
 abbrev pub has_counters : Peer → History → PeerNo → Topic → Bool
 has_counters p H q t =
     is_neighbour p q && (list_any (same_topic t) (named H q) || nat_lt (length (named H q)) most_topics)
 
--- whether a mark counts: it concerns a neighbour, with counters on the topic. In a legal trace each mark of a neighbour
+-- whether a mark counts: it concerns a neighbour, with counters on the topic. In a legal trace each mark about a neighbour
 -- does.
 abbrev pub is_counted : Peer → History → Mark → Bool
 is_counted p H (First q t id) = has_counters p H q t
@@ -49,7 +49,7 @@ is_counted p H (Misbehaviour q) = is_neighbour p q
 is_counted p H (Grafted q t) = has_counters p H q t
 is_counted p H other = true
 
--- what a mark that was made at a moment says: a neighbour came into a mesh or left one, or a counter is raised
+-- what a mark that was made at a moment says: a neighbour entered a mesh or left one, or a counter is raised
 abbrev pub change_of : Millis → Mark → Change
 change_of at (Grafted q t) = histories.Grafted q t at
 change_of at (Pruned q t) = Left q t
@@ -58,7 +58,7 @@ change_of at mark = Marked mark
 abbrev pub marked_after : Peer → Millis → Mark → History → History
 marked_after p at mark H = if is_counted p H mark then change_of at mark ∷ H else H
 
--- whoever is lost counts no more at its address
+-- a lost neighbour no longer counts at its address
 abbrev pub shut_out : Option PeerNo → History → History
 shut_out None H = H
 shut_out (Some q) H = ShutOut q ∷ H
@@ -77,11 +77,11 @@ history p (e ∷ L) = after_marks (marked_after p e.at) e.effects.marks (changed
 abbrev pub setting_of : Peer → Setting
 setting_of p = record { params = p.params; neighbours = p.neighbours }
 
--- the score of a neighbour at a moment, over the topics on which anything is known of it, in millionths
+-- the score of a neighbour at a moment, over the topics on which anything is known about it, in millionths
 unfoldable pub score : Peer → Entries → ℕ → PeerNo → ℤ
 score p L at q = score_in (setting_of p) at (history p L) q (named (history p L) q)
 
--- a neighbour of this score has lost something: who is just at the threshold has not
+-- a score is below a threshold; one that equals the threshold is not
 abbrev pub is_below : ℤ → ℤ → Bool
 is_below threshold x = int_lt x threshold
 
@@ -89,7 +89,7 @@ is_below threshold x = int_lt x threshold
 abbrev pub is_ignored : Peer → Entries → ℕ → PeerNo → Bool
 is_ignored p L at q = is_below p.params.thresholds.gossip_threshold (score p L at q)
 
--- it gets nothing of what the peer publishes, unless it is explicit
+-- it gets nothing that the peer publishes, unless it is explicit
 abbrev pub is_passed_over : Peer → Entries → ℕ → PeerNo → Bool
 is_passed_over p L at q = is_below p.params.thresholds.publish_threshold (score p L at q)
 

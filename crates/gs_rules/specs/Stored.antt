@@ -1,4 +1,4 @@
--- Entries as a trace stores them: what was done about an event stands apart from it.
+-- Entries as a trace stores them: the effects of an event are stored outside it.
 use Rattle.std.specs.Prelude.{Option, None, Some}
 use Rattle.gs_base.specs.declared.names.Millis.{Millis}
 use Rattle.gs_rules.specs.declared.event.Event.{Event}
@@ -6,7 +6,7 @@ use Rattle.gs_rules.specs.declared.trace.Entry.{Entry}
 use Rattle.gs_rules.specs.declared.trace.Effects.{Effects}
 use Rattle.gs_rules.specs.Rule.{no_effects}
 
--- what was done, where that is stored, and else nothing
+-- the stored effects, or no effects if none are stored
 abbrev pub effects_or_none : Option Effects → Effects
 effects_or_none None = no_effects
 effects_or_none (Some effects) = effects

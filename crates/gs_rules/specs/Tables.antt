@@ -1,7 +1,7 @@
--- What a trace says of a peer. Its entries stand with the newest first, so each table is read off the newest entry
--- and what the table said before it: a step by the entry's event, and where marks change it, a step by each mark. A
--- new event or mark is one line in the tables that it changes; a new part of an RPC, step of a heartbeat or act of the
--- user needs a line in each that reads these.
+-- What a trace says about a peer. The newest entry comes first. So each table follows from the newest entry and the table
+-- before it. There is a step for the entry's event, and one for each mark if marks change the table. A new event or mark
+-- needs one line in each table that it changes. A new part of an RPC, step of a heartbeat or act of the user needs a line
+-- in each table that reads these.
 use Rattle.std.specs.Prelude.{ℕ, ◌+◌, ◌-◌, Bool, true, false, not, ◌&&◌, ◌||◌, nat_lt, if◌then◌else◌, List, [], ◌∷◌, ◌++◌, filter, Option, Some, None, unwrap_or}
 use Rattle.std.specs.List.{list_any}
 use Rattle.std.specs.declared.cmp.Ordering.{Ordering}
@@ -66,8 +66,8 @@ lost_by (Unsubscribe t) = None
 lost_by (Publish t payload) = None
 lost_by (Raw q bytes) = None
 
--- The neighbour that an event loses, if any: it closed its link, its bytes spelled no RPC or ended within one, or the
--- peer hung up on it. Whatever follows from such a loss reads this.
+-- The neighbour that an event loses, if any. It closed its link, its bytes spelled no RPC or ended within one, or the peer
+-- hung up on it. All that follows from such a loss reads this.
 abbrev pub lost : Event → Option PeerNo
 lost (Lost p loss) = Some p
 lost (Own act) = lost_by act
@@ -97,17 +97,17 @@ abbrev pub up : Entries → PeerNo → Bool
 up [] q = true
 up (e ∷ L) q = up_after q e.event (up L q)
 
--- what a change of a subscription leaves of that, if there is one
+-- whether a neighbour is on a topic after a change of a subscription, if there is one
 abbrev pub on_by_sub : PeerNo → Topic → PeerNo → Option SubOpt → Bool → Bool
 on_by_sub q t p None before = before
 on_by_sub q t p (Some sub) before =
     if same_peer p q && same_topic (topic_or_empty sub.topic) t then unwrap_or sub.subscribe false else before
 
--- what a part of an RPC leaves of that: a change of subscription says it anew
+-- whether it is after a part of an RPC: a change of a subscription decides it again
 abbrev pub on_by : PeerNo → Topic → PeerNo → RpcPart → Bool → Bool
 on_by q t p part before = on_by_sub q t p (subscription_in part) before
 
--- whether a neighbour is on a topic: what it said of the topic last
+-- whether a neighbour is on a topic: what it last said about the topic
 abbrev pub on_after : PeerNo → Topic → Event → Bool → Bool
 on_after q t event before = of_part (λ p part. on_by q t p part before) before event
 
@@ -151,7 +151,7 @@ known (e ∷ L) = known_after e.event (known L)
 abbrev pub topic_order : Topic → Topic → Ordering
 topic_order t u = slice_cmp nat_cmp t.0 u.0
 
--- a topic at its place among others that ascend; where it stands there, it stays once
+-- a topic at its place among others that ascend; if it is there already, it stays there once
 abbrev pub placed : Topic → List Topic → List Topic
 placed t [] = t ∷ []
 placed t (u ∷ us) = by_order (topic_order t u) (t ∷ u ∷ us) (u ∷ us) (u ∷ placed t us)
@@ -171,7 +171,7 @@ pub record Sighting : Type 0 where
   pub at : ℕ
   pub verdict : Verdict
 
--- what a mark at this moment leaves of when a message was marked last
+-- when a message was last marked as seen, after a mark at this moment
 abbrev pub sighting_after : MsgId → ℕ → Mark → Option Sighting → Option Sighting
 sighting_after id at (Seen other verdict) before =
     if same_id other id then Some (record { at = at; verdict = verdict }) else before
@@ -182,7 +182,7 @@ abbrev pub last_seen : Entries → MsgId → Option Sighting
 last_seen [] id = None
 last_seen (e ∷ L) id = after_marks (sighting_after id e.at.0) e.effects.marks (last_seen L id)
 
--- a sighting counts for less than the time after it
+-- a sighting counts for less than this time after it
 abbrev pub counting : ℕ → ℕ → Option Sighting → Option Verdict
 counting ttl now None = None
 counting ttl now (Some s) = if nat_lt (now - s.at) ttl then Some s.verdict else None
@@ -193,7 +193,8 @@ seen ttl L id now = counting ttl now (last_seen L id)
 
 -- ---- kept messages
 
--- A message that is kept for who asks for it, the topic that it is kept as one of, and how many heartbeats ended since.
+-- A message that is kept for neighbours that ask for it, the topic that it is kept under, and how many heartbeats ended
+-- since.
 pub record Keeping : Type 0 where
   pub topic : Topic
   pub message : Message
@@ -255,7 +256,7 @@ keeping len (Some k) = if nat_lt k.age len then Some k else None
 abbrev pub kept : ℕ → Entries → MsgId → Option Keeping
 kept len L id = keeping len (last_kept L id)
 
--- a message that is kept anew stands last, and no more where it stood
+-- a message that is kept again moves to the end
 abbrev pub order_after : Mark → List MsgId → List MsgId
 order_after (Cached id t) before = filter (λ other. not (same_id id other)) before ++ id ∷ []
 order_after other before = before
@@ -265,7 +266,7 @@ abbrev pub keeping_order : Entries → List MsgId
 keeping_order [] = []
 keeping_order (e ∷ L) = after_marks order_after e.effects.marks (keeping_order L)
 
--- how often a neighbour was sent a message since that was kept anew
+-- how often a neighbour was sent a message since the message was last kept
 abbrev pub answered_after : PeerNo → MsgId → Mark → ℕ → ℕ
 answered_after q id (Cached other t) before = if same_id other id then 0 else before
 answered_after q id (Answered p other) before = if same_peer p q && same_id other id then before + 1 else before
@@ -294,11 +295,11 @@ anew_by (FanEnd t) before = before
 anew_by (GossipBeat t) before = before
 anew_by BeatEnd before = 0
 
--- the end of a heartbeat begins a count anew
+-- the end of a heartbeat starts a count again from 0
 abbrev pub anew_after : Event → ℕ → ℕ
 anew_after event before = of_step (λ step. anew_by step before) before event
 
--- how many offers of a neighbour counted since the last heartbeat
+-- how many offers from a neighbour counted since the last heartbeat
 abbrev pub offers_after : PeerNo → Mark → ℕ → ℕ
 offers_after q (Offered p) before = if same_peer p q then before + 1 else before
 offers_after q other before = before
@@ -307,7 +308,7 @@ abbrev pub offers : Entries → PeerNo → ℕ
 offers [] q = 0
 offers (e ∷ L) q = after_marks (offers_after q) e.effects.marks (anew_after e.event (offers L q))
 
--- how many identifiers were asked of a neighbour since the last heartbeat
+-- how many identifiers a neighbour was asked for since the last heartbeat
 abbrev pub asked_after : PeerNo → Mark → ℕ → ℕ
 asked_after q (Asked p n) before = if same_peer p q then before + n else before
 asked_after q other before = before
@@ -322,7 +323,7 @@ asked (e ∷ L) q = after_marks (asked_after q) e.effects.marks (anew_after e.ev
 abbrev pub ended_after : Event → ℕ → List Promise → List Promise
 ended_after event at before = of_beginning (filter (λ promise. nat_lt at promise.until.0) before) before event
 
--- a message that is marked as seen keeps each promise of it, whoever sent it
+-- a message that is marked as seen keeps each promise of this message, whoever sent it
 abbrev pub fulfilled_after : Mark → List Promise → List Promise
 fulfilled_after (Seen id verdict) before = filter (λ promise. not (same_id id promise.id)) before
 fulfilled_after other before = before

@@ -1,4 +1,4 @@
-//! What happens at a peer, by what decides about it.
+//! The events of a peer, and the parts of RPCs and steps of heartbeats among them.
 ghost use Rattle.std.specs.Prelude.{◌≡◌, IfSome, IfNone, Some, None};
 ghost use Rattle.gs_rules.specs.Parts.{brought_by, subscription_in};
 ghost use Rattle.gs_rules.specs.Tables.{lost, lost_by};
@@ -8,26 +8,26 @@ use gs_base::{
 };
 use gs_plan::Act;
 
-/// What happened at a peer. What is long of it stands apart, so that an entry is small.
+/// What happened at a peer. Its long data is stored outside the event, so that an entry is small.
 #[derive(Debug, Drop, PartialEq, Eq)]
 pub enum Event {
     /// A neighbour's RPC came. Its parts follow, unless the neighbour is on the graylist.
     Heard(PeerNo, Shared<Rpc>),
-    /// An RPC came of a neighbour that is not heard any more.
+    /// An RPC came from a neighbour that is no longer heard.
     Late(PeerNo, Shared<Rpc>),
     /// A part of an RPC that was heard.
     Part(PeerNo, RpcPart),
-    /// A heartbeat began: promises whose time had come ended. Its steps follow.
+    /// A heartbeat began, and promises whose time had come ended. Its steps follow.
     BeatBegin,
     /// A step of a heartbeat.
     Step(BeatStep),
-    /// The peer's own user had it do something.
+    /// The peer's own user made it do something.
     Own(Shared<Act>),
     /// A neighbour was lost.
     Lost(PeerNo, Loss),
-    /// The counters that scores are made of decayed by a step.
+    /// The counters of scores decayed by a step.
     Decay,
-    /// The round of this number ended: neighbours hear in the next one what was sent in it.
+    /// The round with this number ended. Neighbours hear in the next round what was sent in this one.
     RoundEnd(u64),
     /// The peer shut down.
     Shut,
@@ -57,15 +57,15 @@ pub enum BeatStep {
     MeshBeat(Topic),
     /// The fanout of a topic was mended (gossipsub v1.0, "Fanout maintenance").
     FanBeat(Topic),
-    /// The fanout of a topic ended: the peer has not published on it for its time.
+    /// The fanout of a topic ended, since the peer has not published on the topic for `fanout_ttl_ms`.
     FanEnd(Topic),
-    /// What there is on a topic was gossiped (gossipsub v1.0, "Gossip Emission").
+    /// The kept messages of a topic were gossiped (gossipsub v1.0, "Gossip Emission").
     GossipBeat(Topic),
     /// The heartbeat ended.
     BeatEnd,
 }
 
-/// How a neighbour is lost that the peer did not hang up on.
+/// How a neighbour is lost if the peer did not hang up on it.
 #[derive(Clone, Copy, Debug, PartialEq, Eq)]
 pub enum Loss {
     /// It closed its link.
@@ -75,7 +75,7 @@ pub enum Loss {
 }
 
 impl RpcPart {
-    /// The change of a subscription that it is, if it is one.
+    /// Returns the change of a subscription, if the part is one.
     pub fn subscription(&self) -> Option<&SubOpt>
         ensures some { IfSome result (λ sub. subscription_in self.now ≡ Some sub.now) }
         ensures none { IfNone result (subscription_in self.now ≡ None) }
@@ -90,7 +90,7 @@ impl RpcPart {
         }
     }
 
-    /// The message that it is, if it is one.
+    /// Returns the message, if the part is one.
     pub fn message(&self) -> Option<&SharedPart<Message>>
         ensures some { IfSome result (λ message. brought_by self.now ≡ Some message.now) }
         ensures none { IfNone result (brought_by self.now ≡ None) }
@@ -107,7 +107,7 @@ impl RpcPart {
 }
 
 impl Event {
-    /// The neighbour that it loses, if any.
+    /// Returns the neighbour that the event loses, if any.
     pub fn lost(&self) -> Option<PeerNo>
         ensures { result ≡ lost self.now }
     {
@@ -126,7 +126,7 @@ impl Event {
     }
 }
 
-/// The neighbour on which it hangs up, if any.
+/// Returns the neighbour on which the act hangs up, if any.
 fn lost_by(act: &Act) -> Option<PeerNo>
     ensures { result ≡ lost_by act.now }
 {

@@ -1,9 +1,9 @@
-//! What neighbours sent or promised that came to nothing.
+//! What neighbours sent or promised in vain.
 use crate::outcome::GraftRefusal;
 use crate::trace::Promise;
 use gs_base::{MsgId, PeerNo, Topic};
 
-/// Something that a neighbour sent or promised, and that came to nothing.
+/// Something that a neighbour sent or promised in vain.
 #[derive(Debug, Drop, PartialEq, Eq)]
 pub enum Fallen {
     /// An RPC was not heard, since its sender is on the graylist (gossipsub v1.1, "Peer Scoring").

@@ -1,4 +1,4 @@
-//! Laws of traces and rounds. Each is about its definitions only, and its function does nothing.
+//! Laws about traces and rounds. Each is about definitions only, and its function does nothing.
 ghost use Rattle.std.specs.Prelude.{ℕ, true, false, ◌≡◌, ◌<◌, ◌≤◌, ◌+◌, ◌∷◌, ◌++◌, ◌&&◌, [], List, None, Some, length, map, nat_le, reverse};
 ghost use Rattle.std.specs.List.{All, AllByRecursion, IsAmong, list_any};
 ghost use Rattle.std.specs.List.Sorted.{IsStrictlySortedBy};
@@ -56,8 +56,8 @@ pub fn one_more_entry()
         → handled (reverse (entries ++ e ∷ [])) q ≡ handled (reverse entries) q ++ handled_by q e.event }
 {}
 
-/// Nothing is gathered right after a cut. The same holds for a neighbour that is not up, and where the rounds so far
-/// are played to their ends.
+/// Nothing is gathered right after a cut. The same holds for a neighbour that is not up, and when the rounds so far are
+/// played to their ends.
 pub fn nothing_is_gathered_after_a_cut()
     ensures cut { (codec : Codec) (entries : Entries) (e : Entry) (q : PeerNoValue)
         → is_cut q e.event ≡ true → gathered codec (e ∷ entries) q ≡ None }
@@ -68,28 +68,28 @@ pub fn nothing_is_gathered_after_a_cut()
         → AfterRounds seat said r entries refused → gathered codec entries q ≡ None }
 {}
 
-/// Only a cut says more than frames: bytes as they are, the end of a round, or a close. So none of these overtakes what is
+/// Only a cut says more than frames: raw bytes, the end of a round, or a close. So none of these overtakes what is
 /// gathered.
 pub fn only_a_cut_says_more_than_frames()
     ensures raw { (q : PeerNoValue) (event : Event) → is_cut q event ≡ false → raw_to q event ≡ [] }
     ensures sign { (q : PeerNoValue) (event : Event) → is_cut q event ≡ false → sign q event ≡ [] }
 {}
 
-/// A close is the last that is said.
+/// Nothing is said after a close.
 pub fn nothing_is_said_after_a_close()
     ensures { (codec : Codec) (entries : Entries) (q : PeerNoValue) (before behind : Said)
         → out codec entries q ≡ before ++ Close ∷ behind
         → behind ≡ [] }
 {}
 
-/// Of two entries of a legal trace that deliver one identifier, on whatever topics, the later comes
-/// no sooner after the earlier than the time for which a message counts as seen.
+/// In a legal trace, no identifier is delivered again, on any topic, while its message counts as seen. The later of two
+/// such entries comes at least `seen_ttl_ms` after the earlier.
 pub fn a_delivery_is_not_repeated()
     ensures { (p : Peer) (entries : Entries) → Legal p entries → DeliversApart (seen_ttl p) entries }
 {}
 
-/// Entries that may come after others may have further ones after them, where these go on with the
-/// choices. A whole trace falls into such parts.
+/// Two legal runs of entries compose if the second follows the first and continues its choices. A whole run can be split
+/// into such parts.
 pub fn legal_entries_compose<W: Words>()
     ensures joined { (p : Peer) (s u t : W) (first later more : Entries)
         → LegalOn (exact W.word W.after) p s first later u
@@ -105,7 +105,7 @@ pub fn legal_entries_compose<W: Words>()
         → Legal p (more ++ first) }
 {}
 
-/// What the words choose is a choice: entries that are legal by the words of a source are legal.
+/// Entries that are legal by the words of a source are legal, since what the words choose is a choice.
 pub fn what_words_choose_is_legal<W: Words>()
     ensures exact { (p : Peer) (s t : W) (first later : Entries)
         → LegalOn (exact W.word W.after) p s first later t
@@ -118,8 +118,7 @@ pub fn what_words_choose_is_legal<W: Words>()
         → LegalOn (exact W.word W.after) p s first later s }
 {}
 
-/// Nothing is left open: after the same entries, and from the same words on, an event and its
-/// moment fix the next entry and the words that are left after it.
+/// After the same entries and from the same words, an event and its moment fix the next entry and the words after it.
 pub fn words_fix_the_next_entry<W: Words>()
     ensures { (p : Peer) (s t u : W) (first later : Entries) (e f : Entry)
         → LegalOn (exact W.word W.after) p s first (e ∷ later) t
@@ -129,7 +128,7 @@ pub fn words_fix_the_next_entry<W: Words>()
         → (e ≡ f) × (t ≡ u) }
 {}
 
-/// A rule and the words fix what is chosen: one list of effects follows it, and leaves one state of the words.
+/// A rule and the words fix what is chosen: the effects that follow the rule, and the state of the words after it.
 pub fn words_fix_what_follows_a_rule<W: Words>()
     ensures { (r : Rule) (s t u : W) (e f : Effects)
         → Follows (exact W.word W.after) r s e t
@@ -145,9 +144,8 @@ pub fn what_is_given_draws_no_word<W: Words>()
         → t ≡ s }
 {}
 
-/// The bytes that a legal trace says to a neighbour spell RPCs, and nothing else, where it puts no other bytes on that
-/// link. Joined with what is gathered after them, they are what the trace sends there, joined: whole, once and in
-/// order.
+/// The bytes that a legal trace says to a neighbour spell only RPCs, if it puts no raw bytes on that link. These RPCs and
+/// the gathered one, joined, are what the trace sends there, joined: whole, once and in order.
 pub fn what_is_sent_is_spelled()
     ensures { (p : Peer) (entries : Entries) (q : PeerNoValue)
         → Legal p entries
@@ -157,8 +155,7 @@ pub fn what_is_sent_is_spelled()
         × (joined_options (joined_rpcs rpcs) (gathered codec entries q) ≡ joined_rpcs (sent entries q)) }
 {}
 
-/// A peer that keeps the rounds has handled of each neighbour what the bytes spell that the neighbour
-/// said to it: whole, once and in order.
+/// A peer that keeps the rounds has handled what the bytes from each neighbour spell: whole, once and in order.
 pub fn what_was_said_is_handled()
     ensures { (seat : Seat) (said : PeerNoValue → Said) (entries : Entries) (refused : List RefusedLine)
         → IsAscending (links_of seat.peer)
@@ -167,8 +164,9 @@ pub fn what_was_said_is_handled()
         → AllByRecursion (λ q. Spell (bytes_of (said q)) (handled entries q)) (links_of seat.peer) }
 {}
 
-/// What a peer that keeps the rounds has handled of a neighbour is, joined, what the neighbour's legal trace sends to it,
-/// joined, where that is what the neighbour says, and nothing but frames: whole, once and in order.
+/// A peer that keeps the rounds handles what a neighbour's legal trace sends to it: whole, once and in order. Joined, the
+/// RPCs of both sides are equal. This holds if the neighbour says what that trace says, and that trace puts only frames on
+/// the link.
 pub fn what_was_sent_is_handled()
     ensures { (seat : Seat) (said : PeerNoValue → Said) (entries : Entries) (refused : List RefusedLine)
         → IsAscending (links_of seat.peer)
@@ -177,7 +175,7 @@ pub fn what_was_sent_is_handled()
         → AllByRecursion (HandlesWhatIsSent seat said entries) (links_of seat.peer) }
 {}
 
-/// A peer that keeps the rounds, and whose script puts no other bytes on a link, says only frames there.
+/// A peer that keeps the rounds says only frames on a link, if its script puts no raw bytes there.
 pub fn a_script_without_bytes_says_only_frames()
     ensures { (seat : Seat) (said : PeerNoValue → Said) (entries : Entries) (refused : List RefusedLine) (q : PeerNoValue)
         → Legal seat.peer entries
@@ -186,7 +184,7 @@ pub fn a_script_without_bytes_says_only_frames()
         → SaysOnlyFrames q entries }
 {}
 
-/// A round with nothing left is a whole round.
+/// A part of a round with nothing left to do is a whole round.
 pub fn a_part_with_nothing_left_is_whole()
     ensures { (seat : Seat) (said : PeerNoValue → Said) (phase : Phase) (old new : Entries) (refused : List RefusedLine)
         → PlaysInPart seat said phase [] old new refused
@@ -200,12 +198,12 @@ pub fn own_topics_are_those_that_are_joined()
     ensures ascend { (entries : Entries) → IsStrictlySortedBy topic_order (own_topics entries) }
 {}
 
-/// Once a heartbeat has charged broken promises, three groups of events are owed, and nothing else: it mends the
-/// meshes, then the fanouts, then it gossips and ends. The events of each group come one after the other. After the
-/// last one the next group is reached, as things stand then, and one that holds no event is passed over. The first
-/// group is the mesh of each topic that the peer is subscribed to, and the second is each fanout, which ends where its
-/// time has come and else is mended. The last group is gossip on each topic that has a mesh or a fanout and on which
-/// there is some, and the heartbeat's end. The topics of each group ascend by their bytes, and none comes twice.
+/// After a heartbeat has charged broken promises, it owes only three groups of events. It mends the meshes, then the
+/// fanouts, then it gossips and ends. The events of each group come one after the other. After the last one the next group
+/// is reached, as things stand then. A group without events is skipped. The first group is the mesh of each topic that the
+/// peer is subscribed to. The second group is each fanout, which ends if its time has come, and else is mended. The last
+/// group is gossip on each topic that has a mesh or a fanout and something to gossip, and the heartbeat's end. The topics
+/// of each group ascend by their bytes, and none comes twice.
 pub fn a_heartbeat_mends_gossips_and_ends()
     ensures begins { (p : Peer) (entries : Entries) (e : Entry)
         → e.event ≡ BeatBegin
@@ -231,11 +229,11 @@ pub fn a_heartbeat_mends_gossips_and_ends()
         × IsStrictlySortedBy topic_order (gossip_topics p entries) }
 {}
 
-/// Whatever may come where a heartbeat mends a mesh is a step of that mesh, by any choices: of its members and of those
-/// who may be grafted, by their scores at that moment and by how many heartbeats began. The entry says what the mending
-/// by that step says, but for an order that nobody sees. Whoever goes is sent a PRUNE, is charged with what is missing
-/// of its deliveries, and is not to come back for a while. Whoever comes in is sent a GRAFT. Where words choose, the
-/// entry is that mending as it stands. Whoever comes in might be grafted, and whoever goes was a member.
+/// When a heartbeat mends a mesh, the mesh makes a step, by any choices. The step depends on the members and the peers that
+/// may be grafted, on their scores at that moment, and on how many heartbeats began. The entry says what the mending by
+/// that step says, except for an order that nobody sees. A peer that leaves is sent a PRUNE, is charged with its missing
+/// deliveries, and must not come back for a while. A peer that enters is sent a GRAFT. If words choose, the effects are
+/// exactly that mending. Each peer that enters was allowed to be grafted, and each peer that leaves was a member.
 pub fn a_heartbeat_moves_a_mesh_a_step<W: Words>()
     ensures step { (p : Peer) (entries : Entries) (e : Entry) (t : Topic)
         → Follows free (mesh_beat_rule p entries e.at t) tt e.effects tt
@@ -263,14 +261,14 @@ pub fn a_heartbeat_moves_a_mesh_a_step<W: Words>()
         → AllByRecursion (λ q. is_among (mesh entries t) q ≡ true) change.pruned }
 {}
 
-/// What is gossiped on a topic is kept as one of that topic, and was kept lately; and it fits one offer.
+/// What is gossiped on a topic is kept under that topic, was kept lately, and fits one offer.
 pub fn gossip_is_of_what_is_kept()
     ensures lately { (p : Peer) (entries : Entries) (t : Topic)
         → All (IsKeptOn p entries t) (gossip p entries t) }
     ensures few { (p : Peer) (entries : Entries) (t : Topic) → length (gossip p entries t) ≤ most_identifiers }
 {}
 
-/// After the charges of a heartbeat no promise is left whose time has come, so that none is charged again.
+/// After a heartbeat has charged promises, none is left whose time has come. So no promise is charged again.
 pub fn a_promise_is_charged_once()
     ensures { (entries : Entries) (e : Entry)
         → e.event ≡ BeatBegin
@@ -278,8 +276,8 @@ pub fn a_promise_is_charged_once()
         → All (λ promise. e.at.0 < promise.until.0) (promises (e ∷ entries)) }
 {}
 
-/// A promise that no entry since has kept or ended is held. Once its time has come it is overdue, and while its
-/// neighbour is up, it is charged to it. And no other promise is held.
+/// A promise is held if no later entry has kept or ended it, and no other promise is held. When its time has come it is
+/// overdue. Its neighbour is then charged with it, if that neighbour is up.
 pub fn a_broken_promise_is_charged()
     ensures held { (later earlier : Entries) (e : Entry) (promise : Promise)
         → e.effects.promise ≡ Some promise
@@ -301,8 +299,8 @@ pub fn a_broken_promise_is_charged()
         → WasLeftOpen entries promise }
 {}
 
-/// What is kept as one of a topic, and was kept lately, is gossiped on it, where no more than fit one offer are;
-/// and where more are, it is gossiped unless as many as fit one offer were kept later.
+/// A message that was kept lately under a topic is gossiped on it, if all such messages fit one offer. If they do not fit,
+/// it is gossiped unless as many as fit one offer were kept later.
 pub fn what_is_kept_is_gossiped()
     ensures stands { (len : ℕ) (entries : Entries) (id : MsgId) (found : Keeping)
         → kept len entries id ≡ Some found
@@ -320,8 +318,8 @@ pub fn what_is_kept_is_gossiped()
         → IsAmong (gossip p entries t) id }
 {}
 
-/// No mark of a legal trace is left out of the history that scores are made of, where messages and GRAFTs come of
-/// neighbours; and on each topic that the peer is subscribed to there is room for the counters of each neighbour.
+/// Each mark of a legal trace is in the history that scores follow from, if messages and GRAFTs come from neighbours. On
+/// each topic that the peer is subscribed to, there is room for the counters of each neighbour.
 pub fn each_mark_of_a_legal_trace_counts()
     ensures all { (p : Peer) (entries : Entries) (e : Entry)
         → Legal p (e ∷ entries)
@@ -335,8 +333,8 @@ pub fn each_mark_of_a_legal_trace_counts()
         → has_counters p (history p entries) q t ≡ true }
 {}
 
-/// Until the peer shuts down, a neighbour that is lost counts no more at its address, by whatever event it was lost, and
-/// every other one counts there as at first.
+/// Until the peer shuts down, a lost neighbour does not count at its address, whichever event lost it. Every other
+/// neighbour counts there as at first.
 pub fn whoever_is_lost_counts_no_more_at_its_address()
     ensures { (p : Peer) (entries : Entries) (q : PeerNoValue)
         → is_shut entries ≡ false
@@ -344,7 +342,7 @@ pub fn whoever_is_lost_counts_no_more_at_its_address()
         ≡ (up entries q && is_counted (addresses_in p.neighbours []) q) }
 {}
 
-/// Once a peer has shut down, the scores of its neighbours at any one moment stay what they were before.
+/// After a peer has shut down, the score of each neighbour at any given moment stays what it was before.
 pub fn nothing_changes_a_score_after_a_shut()
     ensures { (p : Peer) (later earlier : Entries) (e : Entry) (at : ℕ) (q : PeerNoValue)
         → Legal p (later ++ e ∷ earlier)
@@ -352,7 +350,7 @@ pub fn nothing_changes_a_score_after_a_shut()
         → score p (later ++ e ∷ earlier) at q ≡ score p earlier at q }
 {}
 
-/// Once a peer has shut down, its meshes stay what they were before, and so do the topics that it is subscribed to.
+/// After a peer has shut down, its meshes and the topics that it is subscribed to stay what they were before.
 pub fn nothing_changes_a_mesh_after_a_shut()
     ensures members { (p : Peer) (later earlier : Entries) (e : Entry) (t : Topic)
         → Legal p (later ++ e ∷ earlier)

@@ -1,5 +1,5 @@
-//! What a gossipsub peer does, entry by entry: which entries may follow each other, by which choices, and
-//! what there is to do in each round.
+//! What a gossipsub peer does, entry by entry: which entries may follow each other, by which choices, and what each round
+//! asks for.
 #![tactic(auto)]
 
 mod event;

@@ -1,4 +1,4 @@
-//! Laws of who is in meshes and fanouts. Each is about its definitions only, and its function does nothing.
+//! Laws about the members of meshes and fanouts. Each is about definitions only, and its function does nothing.
 ghost use Rattle.std.specs.Prelude.{true, false, ◌≡◌, ◌∷◌, ◌++◌, [], nat_le};
 ghost use Rattle.std.specs.List.{AllByRecursion, IsAmong};
 ghost use Rattle.gs_base.specs.declared.names.PeerNo.{PeerNo as PeerNoValue};
@@ -14,8 +14,8 @@ ghost use Rattle.gs_rules.specs.Arrivals.{CameIn};
 ghost use Rattle.gs_rules.specs.Scoring.{IsFromNeighbour};
 ghost use Rattle.gs_rules.specs.Legal.{Legal};
 
-/// Each member of a mesh of a legal trace is up, until the peer shuts down; and it is a neighbour, where all GRAFTs that
-/// came, came of neighbours.
+/// In a legal trace, each member of a mesh is up until the peer shuts down. Each is a neighbour if all messages and GRAFTs
+/// came from neighbours.
 pub fn mesh_members_are_up()
     ensures up { (p : Peer) (entries : Entries) (q : PeerNoValue) (t : Topic)
         → Legal p entries
@@ -29,8 +29,8 @@ pub fn mesh_members_are_up()
         → is_neighbour p q ≡ true }
 {}
 
-/// Each member of a mesh of a legal trace came into it by an entry, when it was not in backoff there, and no later entry
-/// says that it left. Nor was anybody else that an entry says came into a mesh.
+/// In a legal trace, each member of a mesh entered it by an entry, and no later entry says that it left. No peer that
+/// enters a mesh by an entry is in backoff there at that moment.
 pub fn a_member_was_not_in_backoff()
     ensures member { (p : Peer) (entries : Entries) (q : PeerNoValue) (t : Topic)
         → Legal p entries
@@ -42,8 +42,8 @@ pub fn a_member_was_not_in_backoff()
         → nat_le (backoff earlier q t) e.at.0 ≡ true }
 {}
 
-/// A topic that the peer is not subscribed to has no mesh members in a legal trace; and members stand once, ascending by
-/// number.
+/// In a legal trace, a topic that the peer is not subscribed to has no mesh members. Each member is listed once, ascending
+/// by number.
 pub fn meshes_are_of_own_topics()
     ensures joined { (p : Peer) (entries : Entries) (t : Topic)
         → Legal p entries

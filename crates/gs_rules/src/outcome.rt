@@ -5,7 +5,7 @@ use gs_base::MsgId;
 /// What becomes of a message that a neighbour passes on.
 #[derive(Clone, Copy, Debug, PartialEq, Eq)]
 pub enum Outcome {
-    /// Nothing: the router isn't subscribed, or the message was seen lately and counts neither for its sender nor
+    /// Nothing happens. The router isn't subscribed, or the message was seen lately and counts neither for its sender nor
     /// against it.
     Dropped,
     /// It counts against its sender (gossipsub v1.1, Peer Scoring, P4).
@@ -23,15 +23,15 @@ pub enum Outcome {
 /// What becomes of a GRAFT (gossipsub v1.0, "Control messages"; v1.1, "Prune Backoff").
 #[derive(Clone, Copy, Debug, PartialEq, Eq)]
 pub enum GraftAnswer {
-    /// Nothing: the peer isn't subscribed, or has its sender in the mesh.
+    /// Nothing happens. The peer isn't subscribed, or the sender is already in the mesh.
     PassedOver,
-    /// It is refused: its sender is sent a PRUNE, and is not to come back for a while.
+    /// It is refused. Its sender is sent a PRUNE, and must not come back for a while.
     Refused(GraftRefusal),
-    /// Its sender comes into the mesh.
+    /// Its sender enters the mesh.
     Taken,
 }
 
-/// Why a GRAFT is refused. The first reason that there is counts.
+/// Why a GRAFT is refused. The first reason that applies counts.
 #[derive(Clone, Copy, Debug, PartialEq, Eq)]
 pub enum GraftRefusal {
     /// Its sender is explicit (gossipsub v1.1, "Explicit Peering Agreements").
@@ -47,10 +47,10 @@ pub enum GraftRefusal {
 /// What becomes of the fanout of a topic when the peer publishes on it (gossipsub v1.0, "Fanout maintenance").
 #[derive(Clone, Copy, Debug, PartialEq, Eq)]
 pub enum FanoutUse {
-    /// Nothing: the payload goes elsewhere.
+    /// Nothing happens to it. The payload goes elsewhere.
     Unused,
     /// The payload goes to members of the fanout, which is kept.
     Kept,
-    /// Those that the payload goes to become the fanout.
+    /// The receivers of the payload become the fanout.
     Filled,
 }

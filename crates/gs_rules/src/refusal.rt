@@ -9,7 +9,7 @@ pub enum Refusal {
     /// The message was seen lately.
     #[error("the message was seen lately")]
     AlreadySeen,
-    /// The topic is longer than `LONGEST_TOPIC`, or the body with the message than a frame's may be.
+    /// The topic is longer than `LONGEST_TOPIC`, or the message makes a frame's body too long.
     #[error("the topic or the message is too long")]
     TooLong,
     /// The peer is subscribed to the topic.
@@ -21,7 +21,7 @@ pub enum Refusal {
     /// The peer has shut down, or has run out of memory before.
     #[error("the peer has stopped")]
     Stopped,
-    /// The neighbour is lost: it closed its link, its bytes spelled no RPC or ended within one, or the peer hung up on it.
+    /// The neighbour is lost. It closed its link, its bytes spelled no RPC or ended within one, or the peer hung up on it.
     #[error("the link to the neighbour is not open")]
     NotOpen,
     /// The peer was subscribed to `MOST_TOPICS` other topics.
@@ -30,7 +30,7 @@ pub enum Refusal {
 }
 
 impl Refusal {
-    /// The number of the refusal, as docs/FORMATS.md lists it: 16 to 19, 21, 33 and 34.
+    /// Returns the number of the refusal, as docs/FORMATS.md lists it: 16 to 19, 21, 33 and 34.
     pub fn number(self) -> u8
         ensures { result ≡ number_of self }
     {

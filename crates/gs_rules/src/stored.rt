@@ -10,8 +10,8 @@ use gs_base::{Mark, Millis, PeerNo, Rpc, Shared, Topic};
 use std::alloc::{AllocError, Global};
 use std::marker::Model;
 
-/// An entry as a trace stores it. What was done stands apart, since a peer does nothing about most events, which are
-/// messages that it has seen. Contracts see the entry.
+/// An entry as a trace stores it. Its effects are stored outside it, since most events have none: they are messages that
+/// the peer has seen. Contracts see the entry.
 #[derive(Debug, Drop)]
 pub struct StoredEntry {
     at: Millis,
@@ -29,10 +29,10 @@ impl Model for StoredEntry {
 }
 
 impl StoredEntry {
-    /// The entry as it is stored.
+    /// Returns the stored form of an entry.
     ///
     /// # Errors
-    /// `AllocError` where there was no memory for what was done.
+    /// `AllocError` when out of memory for the effects.
     pub fn new(alloc: Global, entry: Entry) -> Result<StoredEntry, AllocError>
         ensures { IfOk result (λ stored. stored ≡ entry) }
     {
@@ -52,21 +52,21 @@ impl StoredEntry {
         })
     }
 
-    /// The moment of the event.
+    /// Returns the moment of the event.
     pub fn at(&self) -> Millis
         ensures { result ≡ self.now.at }
     {
         self.at
     }
 
-    /// What happened.
+    /// Returns what happened.
     pub fn event(&self) -> &Event
         ensures { result.now ≡ self.now.event }
     {
         &self.event
     }
 
-    /// What was sent to whom, in order.
+    /// Returns the RPCs that were sent, each with its receiver, in order.
     pub fn sends(&self) -> &[(PeerNo, Shared<Rpc>)]
         ensures { result.now ≡ self.now.effects.sends }
     {
@@ -76,7 +76,7 @@ impl StoredEntry {
         }
     }
 
-    /// The topics and payloads of what was delivered to the peer's own user.
+    /// Returns the topics and payloads of what was delivered to the peer's own user.
     pub fn delivered(&self) -> &[(Topic, Bytes)]
         ensures { result.now ≡ self.now.effects.delivered }
     {
@@ -86,7 +86,7 @@ impl StoredEntry {
         }
     }
 
-    /// What a neighbour promised, where it was asked for something.
+    /// Returns what a neighbour promised, if it was asked for something.
     pub fn promise(&self) -> Option<&Promise>
         ensures { option_copied result ≡ self.now.effects.promise }
     {
@@ -99,7 +99,7 @@ impl StoredEntry {
         }
     }
 
-    /// What is to be remembered.
+    /// Returns the facts to remember.
     pub fn marks(&self) -> &[Mark]
         ensures { result.now ≡ self.now.effects.marks }
     {

@@ -15,27 +15,27 @@ use std::marker::Model;
 pub struct Promise {
     /// The neighbour that made the offer.
     pub from: PeerNo,
-    /// The one identifier, of those that were asked for, that is watched.
+    /// The identifier that is watched, one of those that were asked for.
     pub id: MsgId,
-    /// The moment from which on the message is overdue: `iwant_followup_ms` after it was asked for.
+    /// The moment from which the message is overdue: `iwant_followup_ms` after it was asked for.
     pub until: Millis,
 }
 
 /// What a peer did about an event.
 #[derive(Debug, Drop, PartialEq, Eq)]
 pub struct Effects {
-    /// What was sent to whom, in order. One RPC is shared by all that it goes to.
+    /// The RPCs that were sent, each with its receiver, in order. All receivers of an RPC share it.
     pub sends: Seq<(PeerNo, Shared<Rpc>)>,
     /// The topics and payloads of what was delivered to the peer's own user.
     pub delivered: Seq<(Topic, Bytes)>,
     /// What a neighbour promised, where it was asked for something.
     pub promise: Option<Shared<Promise>>,
-    /// What is to be remembered.
+    /// The facts to remember.
     pub marks: Seq<Mark>,
 }
 
 impl Effects {
-    /// Nothing was done. It takes no memory.
+    /// Returns effects that do nothing. It takes no memory.
     pub fn none(alloc: Global) -> Effects
         ensures { result ≡ no_effects }
     {
@@ -47,7 +47,7 @@ impl Effects {
         }
     }
 
-    /// Whether nothing was done.
+    /// Says whether nothing was done.
     pub fn are_none(&self) -> bool
         ensures none { result ≡ true → self.now ≡ no_effects }
         ensures some { self.now ≡ no_effects → result ≡ true }
@@ -89,7 +89,7 @@ impl Trace {
     ghost use Rattle.std.specs.Prelude.{reverse};
     ghost use Rattle.gs_rules.specs.Tables.{last_moment};
 
-    /// The trace of a peer that has done nothing. It takes no memory.
+    /// Returns the trace of a peer that has done nothing. It takes no memory.
     pub fn new(alloc: Global) -> Trace
         ensures { result ≡ [] }
     {
@@ -98,14 +98,14 @@ impl Trace {
         }
     }
 
-    /// The entries, the oldest first.
+    /// Returns the entries, the oldest first.
     pub fn entries(&self) -> &[StoredEntry]
         ensures { reverse result.now ≡ self.now }
     {
         self.entries.as_slice()
     }
 
-    /// The moment of the newest entry, and 0 where there is none.
+    /// Returns the moment of the newest entry, or 0 if there is none.
     pub fn last_moment(&self) -> Millis
         ensures { result.0 ≡ last_moment self.now }
     {
@@ -115,7 +115,7 @@ impl Trace {
         }
     }
 
-    /// A trace lies in memory, so that it has fewer than 2^63 entries.
+    /// Proves that a trace has fewer than 2^63 entries, since it is in memory.
     pub fn prove_length_fits(&self)
         ensures { length self.now < 2 ^ 63 }
     {
@@ -125,7 +125,7 @@ impl Trace {
     /// Adds an entry as the newest.
     ///
     /// # Errors
-    /// `AllocError` where there was no memory; the trace is then as it was.
+    /// `AllocError` when out of memory; the trace is then as it was.
     pub fn push(&mut self, entry: Entry) -> Result<(), AllocError>
         ensures ok { OnOk result (self.new ≡ entry ∷ self.old) }
         ensures err { OnErr result (self.new ≡ self.old) }
@@ -134,10 +134,10 @@ impl Trace {
         self.push_stored(stored)
     }
 
-    /// Adds an entry that is stored as the newest.
+    /// Adds a stored entry as the newest.
     ///
     /// # Errors
-    /// `AllocError` where there was no memory; the trace is then as it was.
+    /// `AllocError` when out of memory; the trace is then as it was.
     pub fn push_stored(&mut self, entry: StoredEntry) -> Result<(), AllocError>
         ensures ok { OnOk result (self.new ≡ entry ∷ self.old) }
         ensures err { OnErr result (self.new ≡ self.old) }

@@ -7,26 +7,26 @@ use Rattle.gs_scenario.specs.declared.fault.ScenarioFault.{ScenarioFault}
 use Rattle.gs_scenario.specs.declared.fault.ScenarioFault.TheVariants.{UnknownKey, Missing}
 use Rattle.gs_scenario.specs.declared.scenario.tables.TableKind.{TableKind}
 
--- the second step, where the first is not refused
+-- the second step, if the first refused nothing
 infixl 10 ◌>>=◌
 abbrev pub ◌>>=◌ : {A B : Type 0} → Result A ScenarioFault → (A → Result B ScenarioFault) → Result B ScenarioFault
 (Ok x) >>= f = f x
 (Err fault) >>= f = Err fault
 
--- what is refused where there is nothing
+-- the value, or this refusal where there is none
 abbrev pub or_refuse : {A : Type 0} → ScenarioFault → Option A → Result A ScenarioFault
 or_refuse fault None = Err fault
 or_refuse fault (Some x) = Ok x
 
--- what is refused where a test holds
+-- the value, or this refusal where a test holds
 abbrev pub refuse_if : {A : Type 0} → Bool → ScenarioFault → A → Result A ScenarioFault
 refuse_if test fault x = if test then Err fault else Ok x
 
--- A kind of value: how a value is read that stands at a place.
+-- A kind of value: how the value at a place is read.
 abbrev pub Kind : Type 0 → Type 0
 Kind A = List ℕ → Data → Result A ScenarioFault
 
--- A key: its name, and how what the table holds there is read.
+-- A key: its name, and how the value that the table holds there is read.
 pub record Key (A : Type 0) : Type 0 where
   pub name : List ℕ
   pub reads : List ℕ → Option Data → Result A ScenarioFault
@@ -44,7 +44,7 @@ required name kind = record { name = name; reads = reads_required kind }
 abbrev pub optional : {A : Type 0} → List ℕ → Kind A → A → Key A
 optional name kind default = record { name = name; reads = reads_optional kind default }
 
--- A table of the scenario: its members, and what the places of its keys begin with.
+-- A table of the scenario: its members, and the front of the places of its keys.
 pub record Section : Type 0 where
   pub path : List ℕ
   pub members : Members
@@ -65,11 +65,11 @@ abbrev pub refuse_unknown : List ℕ → TableKind → Option (List ℕ) → Res
 refuse_unknown path kind None = Ok tt
 refuse_unknown path kind (Some key) = Err (UnknownKey (path ++ key) kind)
 
--- a table of a kind has no other key
+-- a table of this kind has no other keys
 unfoldable pub only : TableKind → List (List ℕ) → Section → Result (Unit {0}) ScenarioFault
 only kind known section = refuse_unknown section.path kind (first_unknown known section.members)
 
--- the elements of a list in their order, each read with those before it
+-- the elements of a list in their order; each is read with the elements before it
 unfoldable pub read_each : {A : Type 0} → (List A → Data → Result A ScenarioFault) → List A → Items
     → Result (List A) ScenarioFault
 read_each read before no_items = Ok before

@@ -1,4 +1,4 @@
--- The kinds of values that a key of a scenario holds.
+-- The kinds of values that the keys of a scenario hold.
 use Rattle.std.specs.Prelude.{ℕ, ◌-◌, ◌^◌, ◌++◌, ◌&&◌, ◌||◌, ◌==◌, ◌%◌, Bool, not, nat_le, nat_lt, length, decimal, codes, List, [], Option, Some, None, option_and_then, is_some, Result, Ok, Err, if◌then◌else◌, ℤ, pos, negsuc}
 use Rattle.std.specs.List.{list_all}
 use Rattle.toml.specs.Data.{Data, Items, as_integer, as_bool, as_str, as_table, as_array, Members}
@@ -14,11 +14,11 @@ use Rattle.gs_scenario.specs.Refusal.{found_of, item_count}
 use Rattle.gs_scenario.specs.Keys.{Kind, Key, Section, ◌>>=◌, or_refuse, refuse_if, read_each}
 use Rattle.gs_params.specs.Params.{int_in_range}
 
--- a value that is refused, since another is wanted
+-- the refusal of a value that is not the wanted one
 abbrev pub out_of_range : List ℕ → Data → Wanted → ScenarioFault
 out_of_range place d wanted = Range place (found_of d) wanted
 
--- a kind from the values that it allows: any other is out of range
+-- the kind of the values that a function allows; any other value is out of range
 abbrev pub kind_of : {A : Type 0} → Wanted → (Data → Option A) → Kind A
 kind_of wanted value place d = or_refuse (out_of_range place d wanted) (value d)
 
@@ -40,7 +40,7 @@ signed_number low high = kind_of (wanted.SignedNumber low high) (λ d. option_an
 abbrev pub truth_value : Kind Bool
 truth_value = kind_of wanted.TruthValue as_bool
 
--- a list of low to high elements, which are looked at later
+-- a list of low to high elements, which are read later
 abbrev pub of_length : ℕ → ℕ → Items → Option Items
 of_length low high ds = if nat_le low (item_count ds) && nat_le (item_count ds) high then Some ds else None
 
@@ -51,25 +51,25 @@ list_of low high = kind_of (wanted.Elements low high) (λ d. option_and_then (of
 abbrev pub any_list : Kind Items
 any_list = kind_of wanted.List as_array
 
--- a table, whose keys are looked at later
+-- a table, whose keys are read later
 abbrev pub any_table : Kind Members
 any_table = kind_of wanted.Table as_table
 
--- a list of any length of values of a kind: a value that is none is refused at the list's place
+-- a list of any length of values of a kind; a value of another kind is refused at the list's place
 abbrev pub list_of_each : {A : Type 0} → Kind A → Kind (List A)
 list_of_each kind place d = do
   ds ← any_list place d
   read_each (λ before. kind place) [] ds
 
--- a list of words of 32 bits
+-- a list of 32-bit words
 abbrev pub words : Kind (List ℕ)
 words = list_of_each (whole_number 0 (2 ^ 32 - 1))
 
--- any text, the empty one too
+-- any text, even an empty one
 abbrev pub any_text : Kind (List ℕ)
 any_text = kind_of wanted.Text as_str
 
--- an even number of hex digits: the bytes that they stand for
+-- an even number of hex digits, and the bytes for which they stand
 abbrev pub ok_value : {A : Type 0} → Result A FromHexError → Option A
 ok_value (Ok x) = Some x
 ok_value (Err fault) = None
@@ -77,7 +77,7 @@ ok_value (Err fault) = None
 abbrev pub hex_text : Kind (List ℕ)
 hex_text = kind_of wanted.Hex (λ d. option_and_then (λ text. ok_value (decode_of text)) (as_str d))
 
--- hex digits for at most this number of bytes
+-- hex digits for at most this many bytes
 abbrev pub short_hex : ℕ → Kind (List ℕ)
 short_hex most place d = do
   bytes ← hex_text place d
@@ -96,7 +96,7 @@ if_name text = if is_name text then Some text else None
 abbrev pub name_text : Kind (List ℕ)
 name_text = kind_of wanted.Name (λ d. option_and_then if_name (as_str d))
 
--- a name that something of a kind has, which it stands for
+-- a name that something of a kind has, and what has it
 abbrev pub reference : {A : Type 0} → NameKind → (List ℕ → Option A) → Kind A
 reference kind named place d = do
   text ← name_text place d
@@ -108,11 +108,11 @@ new_name named place d = do
   text ← name_text place d
   refuse_if (is_some (named text)) (Repeated place) text
 
--- one of the words of a script, each with what it stands for
+-- one of the words of a script, and what it means
 abbrev pub word : {A : Type 0} → (List ℕ → Option A) → Kind A
 word meaning = kind_of wanted.Verb (λ d. option_and_then meaning (as_str d))
 
--- a multiple of a step
+-- says whether a number is a multiple of a step
 abbrev pub is_multiple : ℕ → ℕ → Bool
 is_multiple step n = (n % step) == 0
 
@@ -121,7 +121,7 @@ multiple_of step kind place d = do
   n ← kind place d
   refuse_if (not (is_multiple step n)) (out_of_range place d (wanted.Multiple step)) n
 
--- a key whose default, too, must be a multiple of a step
+-- a key that must hold a multiple of a step; so must its default
 abbrev pub reads_multiple : ℕ → Kind ℕ → ℕ → List ℕ → Option Data → Result ℕ ScenarioFault
 reads_multiple step kind default place (Some d) = multiple_of step kind place d
 reads_multiple step kind default place None =
@@ -130,7 +130,7 @@ reads_multiple step kind default place None =
 abbrev pub optional_multiple : ℕ → List ℕ → Kind ℕ → ℕ → Key ℕ
 optional_multiple step name kind default = record { name = name; reads = reads_multiple step kind default }
 
--- the place of an element of a list, which counts from 0
+-- the place of an element of a list; elements count from 0
 abbrev pub element : List ℕ → ℕ → List ℕ
 element list index = list ++ codes "[" ++ decimal index ++ codes "]"
 

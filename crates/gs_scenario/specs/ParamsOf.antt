@@ -18,19 +18,19 @@ use Rattle.gs_scenario.specs.Kinds.{whole_number, signed_number, truth_value, he
 
 -- ---- kinds of keys
 
--- the highest number that a parameter may be given: the lowest is as far below 0
+-- the highest number that a parameter may have; the lowest is its negative
 abbrev pub highest_number : ℕ
 highest_number = 1_000_000_000_000
 
--- a number of things, of milliseconds, of seconds or of millionths
+-- a count, or a number of milliseconds, seconds or millionths
 abbrev pub count_key : List ℕ → ℕ → Key ℕ
 count_key name default = optional name (whole_number 0 highest_number) default
 
--- a number of milliseconds that are a multiple of a step
+-- a number of milliseconds that is a multiple of a step
 abbrev pub multiple_key : ℕ → List ℕ → ℕ → Key ℕ
 multiple_key step name default = optional_multiple step name (whole_number 0 highest_number) default
 
--- the weight of what counts for a neighbour, in millionths
+-- the weight of a reward, in millionths
 abbrev pub reward_key : List ℕ → ℤ → Key ℤ
 reward_key name default = optional name (signed_number (pos 0) (pos highest_number)) default
 
@@ -38,7 +38,7 @@ reward_key name default = optional name (signed_number (pos 0) (pos highest_numb
 abbrev pub score_key : List ℕ → ℤ → Key ℤ
 score_key name default = optional name (signed_number (neg_ℤ (pos highest_number)) (pos highest_number)) default
 
--- a list of the bytes that hex texts stand for, without which it is empty
+-- a list of hex texts, as the bytes for which they stand; it is empty where the key is missing
 abbrev pub prefixes_key : List ℕ → Key (List (List ℕ))
 prefixes_key name = optional name (list_of_each hex_text) []
 
@@ -301,7 +301,7 @@ with_topics shared topics = record {
   topics = topics;
 }
 
--- what a check of parameters gives
+-- the parameters as checked, or the refusal of the check's fault
 abbrev pub or_refuse_params : Result Params ParamFault → Result Params ScenarioFault
 or_refuse_params (Ok params) = Ok params
 or_refuse_params (Err fault) = Err (faults.Params fault)

@@ -83,7 +83,7 @@ top_keys =
     ∷ script_key.name
     ∷ []
 
--- what the top table holds: the table in it and its lists are walked later
+-- what the top table holds; the table and the lists in it are read later
 pub record Top : Type 0 where
   pub round_ms : ℕ
   pub rounds : ℕ
@@ -154,7 +154,7 @@ topic_in earlier d = do
 abbrev pub peer_named : List PlannedPeer → List ℕ → Option PeerNo
 peer_named peers text = option_map (λ n. record { 0 = n }) (position (λ peer. pointwise nat_eq peer.name text) peers)
 
--- a peer that has a name, and is a neighbour of another
+-- the name of a peer that is a neighbour of another
 abbrev pub neighbour : List PlannedPeer → List Dial → PeerNo → Kind PeerNo
 neighbour peers dials one place d = do
   text ← name_text place d
@@ -164,7 +164,7 @@ neighbour peers dials one place d = do
 abbrev pub peer_name_key : List PlannedPeer → Key (List ℕ)
 peer_name_key earlier = required (codes "name") (new_name (peer_named earlier))
 
--- where a peer is: its name, where nothing else is said
+-- where a peer is; this is its name where the key is missing
 abbrev pub address_key : List ℕ → Key (List ℕ)
 address_key name = optional (codes "address") any_text name
 
@@ -185,7 +185,7 @@ peer_in earlier d = do
 
 -- ---- a dial
 
--- a peer that has a name, and is another
+-- the name of a peer other than this one
 abbrev pub other_peer : List PlannedPeer → PeerNo → Kind PeerNo
 other_peer peers one place d = do
   other ← reference names.Peer (peer_named peers) place d
@@ -211,16 +211,16 @@ dial_in peers earlier d = do
   other ← read_key section (to_key peers one)
   new_dial (element (codes "dial") (length earlier)) earlier (record { from = one; to = other })
 
--- ---- what an application thinks of a neighbour
+-- ---- the score that an application gives a neighbour
 
--- the peer that a table speaks of
+-- the peer that a table names
 abbrev pub peer_key : List PlannedPeer → Key PeerNo
 peer_key peers = required (codes "peer") (reference names.Peer (peer_named peers))
 
 abbrev pub about_key : List PlannedPeer → List Dial → PeerNo → Key PeerNo
 about_key peers dials one = required (codes "about") (neighbour peers dials one)
 
--- a peer that a table speaks of, and a neighbour of it
+-- the peer that a table names, and a neighbour of it
 unfoldable pub pair_in : List PlannedPeer → List Dial → Section → Result (PeerNo × PeerNo) ScenarioFault
 pair_in peers dials section = do
   peer ← read_key section (peer_key peers)
@@ -261,7 +261,7 @@ agreement_in peers dials earlier d = do
 
 -- ---- a line of the script
 
--- what a word of the script asks of a peer
+-- what a word of the script tells a peer to do
 abbrev pub verb_of : List ℕ → Option Verb
 verb_of text =
     if pointwise nat_eq text (codes "subscribe") then Some verbs.Subscribe
@@ -283,22 +283,22 @@ topic_key topics = required (codes "topic") (reference names.Topic (topic_named 
 abbrev pub hex_key : Key (List ℕ)
 hex_key = required (codes "hex") hex_text
 
--- to whose link something is done
+-- the neighbour whose link it is done to
 abbrev pub link_key : List PlannedPeer → List Dial → PeerNo → Key PeerNo
 link_key peers dials one = required (codes "to") (neighbour peers dials one)
 
 abbrev pub raw_key : Key (List ℕ)
 raw_key = required (codes "hex") (short_hex longest_raw)
 
--- the keys that every line has, and these others
+-- the keys of every line, and then these others
 abbrev pub line_keys : List (List ℕ) → List (List ℕ)
 line_keys others = what_key.name ∷ (at_key 0).name ∷ (peer_key []).name ∷ others
 
--- the keys of a line that is done to a link, and these others
+-- the keys of a line that is done to a link, and then these others
 abbrev pub link_keys : List (List ℕ) → List (List ℕ)
 link_keys others = line_keys ((link_key [] [] (record { 0 = 0 })).name ∷ others)
 
--- the table of a line that asks for this
+-- the kind of table for a line with this word
 abbrev pub line_kind : Verb → TableKind
 line_kind verbs.Subscribe = kinds.SubscriptionLine
 line_kind verbs.Unsubscribe = kinds.SubscriptionLine
@@ -306,7 +306,7 @@ line_kind verbs.Publish = kinds.PublishLine
 line_kind verbs.Raw = kinds.RawLine
 line_kind verbs.HangUp = kinds.HangUpLine
 
--- the keys that each table may have, in the order in which they are looked at
+-- the keys that each table may have, in the order in which they are read
 abbrev pub known_keys : TableKind → List (List ℕ)
 known_keys kinds.Top = top_keys
 known_keys kinds.Params = shared_names
@@ -320,7 +320,7 @@ known_keys kinds.PublishLine = line_keys ((topic_key []).name ∷ hex_key.name �
 known_keys kinds.RawLine = link_keys (raw_key.name ∷ [])
 known_keys kinds.HangUpLine = link_keys []
 
--- what a line with this word asks of a peer
+-- what a line with this word tells a peer to do
 unfoldable pub what_in : List (Topic × TopicParams) → List PlannedPeer → List Dial → Section → PeerNo → Verb
     → Result Act ScenarioFault
 what_in topics peers dials section peer verbs.Subscribe = do
@@ -341,7 +341,7 @@ what_in topics peers dials section peer verbs.HangUp = do
   to ← read_key section (link_key peers dials peer)
   Ok (HangUp to)
 
--- what a line asks of a peer; the line has no key but those that such a line may have
+-- what a line tells a peer to do; such a line must have no other keys than its own
 unfoldable pub verb_in : Section → Result Verb ScenarioFault
 verb_in section = do
   verb ← read_key section what_key
@@ -360,8 +360,7 @@ line_in topics peers dials rounds earlier d = do
 
 -- ---- the plan
 
--- the top table, then the tables and lists in it in the order of their keys, and then the checks of
--- the parameters
+-- the top table is read, then the tables and lists in it in the order of their keys; the parameters are checked last
 unfoldable pub plan_in : Members → Result Plan ScenarioFault
 plan_in members = do
   top ← top_in (record { path = []; members = members })

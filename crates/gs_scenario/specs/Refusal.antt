@@ -1,4 +1,4 @@
--- What a refusal of a scenario is printed as, and what it says of a definition.
+-- How a refusal of a scenario is printed, and how a refusal of the code agrees with one of a definition.
 use Rattle.std.specs.Prelude.{◌≡◌, ℕ, ◌+◌, ◌++◌, decimal, codes, List, [], Option, Some, None, Result, Ok, Err}
 use Rattle.gs_scenario.specs.declared.fault.ScenarioFault.{ScenarioFault}
 use Rattle.gs_scenario.specs.declared.fault.ScenarioFault.TheVariants.{Toml, UnknownKey, Missing, Range, UnknownName, Repeated, NoMemory, Params}
@@ -11,7 +11,7 @@ abbrev pub item_count : Items → ℕ
 item_count no_items = 0
 item_count (item d ds) = item_count ds + 1
 
--- what a value is found to be
+-- how a refusal describes a value
 abbrev pub found_of : Data → Found
 found_of (string text) = found.Text text
 found_of (integer z) = found.Number z
@@ -32,7 +32,7 @@ number_of (UnknownName place name kind) = 30
 number_of (Repeated place) = 31
 number_of NoMemory = 32
 
--- where it is refused: three refusals have no place
+-- the place that is refused; three refusals have none
 abbrev pub place_of : ScenarioFault → Option (List ℕ)
 place_of (Params fault) = None
 place_of Toml = None
@@ -52,7 +52,7 @@ spaced (Some place) = codes " " ++ place
 abbrev pub refusal_text : ScenarioFault → List ℕ
 refusal_text fault = decimal (number_of fault) ++ spaced (place_of fault)
 
--- it is the refusal of a definition, unless memory ran out
+-- the code's refusal is that of a definition, unless it is out of memory
 abbrev pub Refuses : {B : Type 0} → ScenarioFault → Result B ScenarioFault → Type 0
 Refuses (Params fault) said = said ≡ Err (Params fault)
 Refuses Toml said = said ≡ Err Toml
@@ -63,11 +63,11 @@ Refuses (UnknownName place name kind) said = said ≡ Err (UnknownName place nam
 Refuses (Repeated place) said = said ≡ Err (Repeated place)
 Refuses NoMemory said = Unit {0}
 
--- a call gave, as it is seen by `view`, what a definition says, unless memory ran out
+-- the view of a call's result is what a definition says, unless the call was out of memory
 abbrev pub Gives : {A B : Type 0} → (A → B) → Result A ScenarioFault → Result B ScenarioFault → Type 0
 Gives view (Ok x) said = said ≡ Ok (view x)
 Gives view (Err fault) said = Refuses fault said
 
--- it gave just what the definition says, unless memory ran out
+-- the result of a call is just what a definition says, unless the call was out of memory
 abbrev pub GivesSame : {A : Type 0} → Result A ScenarioFault → Result A ScenarioFault → Type 0
 GivesSame = Gives (λ x. x)

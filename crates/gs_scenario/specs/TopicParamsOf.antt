@@ -122,7 +122,7 @@ topic_counters_in section = do
     p3_threshold = p3_threshold;
   })
 
--- both together are a topic's factors
+-- the factors of a topic, from their two parts
 abbrev pub factors_of : TopicWeights → TopicCounters → TopicFactors
 factors_of weights counters = record {
   topic_weight = weights.topic_weight;

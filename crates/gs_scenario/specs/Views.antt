@@ -1,4 +1,4 @@
--- The code's places, tables and values, as the definitions see them.
+-- The places, tables and values of the code, as the definitions see them.
 use denote.Ref.{Bor}
 use Rattle.std.specs.Prelude.{ℕ, ◌++◌, codes, List, [], Result, option_map, unwrap_or}
 use Rattle.toml.specs.Data.{Data, no_members}
@@ -35,7 +35,7 @@ place_text (places.Element e) = element_text e
 abbrev pub section_of : code.Section → Section
 section_of section = record { path = path_text section.path; members = table_view section.table.now }
 
--- what a kind reads a value as
+-- how a kind reads a value
 abbrev pub read_as : {A : Type 0} → Kind A → Field → Result A ScenarioFault
 read_as kind field = kind (place_text field.place) (view field.value.now)
 
@@ -60,8 +60,8 @@ top_view top = record {
   script = items_view top.script.now;
 }
 
--- whatever a function may say of a value, after those that were read before it, is what a definition
--- says
+-- every result that a function may give for a value, after the values that were read before it, is the one that a definition
+-- gives
 abbrev pub ReadsAs : {A : Type 0} → (Bor (List A) → Bor Value → Result A ScenarioFault → Type 0)
     → (List A → Data → Result A ScenarioFault) → Type 0
 ReadsAs {A} may_say reads = (earlier : Bor (List A)) (value : Bor Value) (said : Result A ScenarioFault)

@@ -10,32 +10,31 @@ use std::alloc::{AllocError, AllocFailed};
 use std::error::Error;
 use std::fmt;
 
-/// Why a scenario is refused. Each fault but three names its place first: a key of the top table by
-/// its name, and otherwise as `params.d`, `peer[1]` or `do[2].hex`, where elements count from 0.
+/// Why a scenario is refused. Each fault except three names its place first. A key of the top table has its name as place.
+/// Other places are such as `params.d`, `peer[1]` or `do[2].hex`, where elements count from 0.
 #[derive(Debug, Drop, PartialEq, Eq)]
 pub enum ScenarioFault {
     /// The text is no TOML document.
     Toml,
-    /// A table of this kind has a key that is not known there: the last part of the place.
+    /// A table of this kind has a key that is not known there. The key is the last part of the place.
     UnknownKey(Text, TableKind),
     /// A key that is required is missing.
     Missing(Text),
-    /// A value has another type, is out of its range, or is badly formed: what stands at the place,
-    /// and what must.
+    /// A value has another type, is out of its range, or is badly formed. The fault has its place, what stands there, and
+    /// what must stand there.
     Range(Text, Found, Wanted),
-    /// A name is well formed, and nothing of the kind that may stand there has it: the place, and
-    /// the name.
+    /// A name is well formed, but nothing of the kind that may stand there has it. The fault has the place and the name.
     UnknownName(Text, Text, NameKind),
     /// A name, a dial, the score of a neighbour or a peering agreement stands for the second time.
     Repeated(Text),
     /// The parameters don't pass their checks.
     Params(ParamFault),
-    /// There was no memory for the plan.
+    /// Out of memory for the plan.
     NoMemory,
 }
 
 impl ScenarioFault {
-    /// The number of the refusal, as docs/FORMATS.md lists it: 26 to 32, or 1 to 4 for parameters.
+    /// Returns the number of the refusal, as docs/FORMATS.md lists it: 26 to 32, or 1 to 4 for parameters.
     pub fn number(&self) -> u8
         ensures { result ≡ number_of self.now }
     {
@@ -51,7 +50,7 @@ impl ScenarioFault {
         }
     }
 
-    /// Where the scenario is refused. `Toml`, `Params` and `NoMemory` have no place.
+    /// Returns the place that is refused. `Toml`, `Params` and `NoMemory` have none.
     pub fn place(&self) -> Option<&Text>
         ensures { option_map (λ place. place.now) result ≡ place_of self.now }
     {
@@ -66,7 +65,7 @@ impl ScenarioFault {
     }
 }
 
-/// The number, and after a space the place where there is one, as `29 do[2].hex`.
+/// The number, and after a space the place where there is one, such as `29 do[2].hex`.
 impl fmt::Display for ScenarioFault {
     ghost output = { λ fault. Some (refusal_text fault) };
 

@@ -1,4 +1,4 @@
-//! Scenarios: the plan that a TOML text describes, or why it is refused.
+//! Scenarios: the plan that a TOML text describes, or why the text is refused.
 #![tactic(auto)]
 
 mod fault;

@@ -1,4 +1,4 @@
-//! What a refusal says of the value that it refuses.
+//! What a refusal says about the value that it refuses.
 ghost use Rattle.std.specs.Prelude.{◌≡◌, IfOk};
 ghost use Rattle.toml.specs.View.{view};
 ghost use Rattle.gs_scenario.specs.Refusal.{found_of};
@@ -14,29 +14,29 @@ pub enum Wanted {
     Number(u64, u64),
     /// A whole number of either sign, from the first to the second.
     SignedNumber(i64, i64),
-    /// A multiple of this number, as of the milliseconds of a round.
+    /// A multiple of this number, such as the milliseconds of a round.
     Multiple(u64),
     /// True or false.
     TruthValue,
-    /// A table, whose keys are looked at later.
+    /// A table. Its keys are read later.
     Table,
     /// A list of any length.
     List,
-    /// A list with a number of elements from the first to the second.
+    /// A list whose number of elements is from the first to the second.
     Elements(usize, usize),
     /// Any text.
     Text,
     /// A name: a text of 1 to 32 of `a` to `z`, `0` to `9`, `_` and `-`.
     Name,
-    /// A text of hex digits, in either case and even in number.
+    /// A text with an even number of hex digits, in either case.
     Hex,
-    /// A text of hex digits for at most this number of bytes.
+    /// A text of hex digits for at most this many bytes.
     ShortHex(usize),
-    /// A word that says what a peer is to do, as `subscribe`.
+    /// A word that says what a peer is to do, such as `subscribe`.
     Verb,
-    /// The name of another peer than the one that dials.
+    /// The name of a peer other than the one that dials.
     AnotherPeer,
-    /// An input of at most this number of bytes.
+    /// An input of at most this many bytes.
     ShortInput(u64),
 }
 
@@ -45,7 +45,7 @@ pub enum Wanted {
 pub enum Found {
     /// A whole number.
     Number(i64),
-    /// A number with a fraction or an exponent, an infinity, or no number (`nan`).
+    /// A number with a fraction or an exponent, an infinity, or `nan`.
     Float,
     /// This text.
     Text(Text),
@@ -57,14 +57,14 @@ pub enum Found {
     List(usize),
     /// A table.
     Table,
-    /// Nothing, so that the key's default counts, which is this number.
+    /// Nothing. The key's default, which is this number, is used.
     Default(u64),
     /// More bytes than an input may have.
     LongInput,
 }
 
 impl Found {
-    /// What a value is found to be.
+    /// Returns how a refusal describes a value.
     #[tactic(auto, using(crate::proofs::Lists::item_count_view))]
     pub(crate) fn of(alloc: Global, value: &Value) -> Result<Found, AllocError>
         ensures { IfOk result (λ found. found ≡ found_of (view value.now)) }
@@ -81,13 +81,13 @@ impl Found {
     }
 }
 
-/// What a name must be the name of.
+/// What kind of thing a name must belong to.
 #[derive(Clone, Copy, Debug, PartialEq, Eq)]
 pub enum NameKind {
     /// A topic of the scenario.
     Topic,
     /// A peer of the scenario.
     Peer,
-    /// A peer that dials the peer that the same table names, or is dialled by it.
+    /// A neighbour of the peer that the same table names. One of the two dials the other.
     Neighbour,
 }

@@ -36,14 +36,13 @@ use std::alloc::Global;
 pub use tables::TableKind;
 use toml::Table;
 
-/// The plan that a scenario describes.
+/// Returns the plan that a scenario describes.
 ///
 /// # Errors
-/// The first refusal. First comes a text that is no TOML. Then the top table is read, then the
-/// table of parameters, and then the lists, element by element. In each table an unknown key is
-/// refused first, and then each key is looked at in a fixed order. Last the parameters are checked.
-/// `NoMemory` may come at any step before, and so in the place of any refusal. Only tests say that a
-/// scenario which is to be refused isn't refused as out of memory.
+/// The first refusal. A text that is no TOML is refused first. Then the top table is read, then the table of parameters, and
+/// then the lists, element by element. In each table an unknown key is refused first. Then its keys are read in a fixed
+/// order. The parameters are checked last. `NoMemory` may come at any step, and so instead of any refusal. Only tests show
+/// that a scenario which is to be refused isn't refused as out of memory.
 pub fn read_plan(alloc: Global, text: &str) -> Result<Plan, ScenarioFault>
     ensures plan { GivesSame result (plan_of text.now) }
     ensures in_range { IfOk result (λ plan. IsInRange plan) }

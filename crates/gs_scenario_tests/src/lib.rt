@@ -1,5 +1,5 @@
-//! Scenarios with the plan or the refusal that each must give. A crate is proved once more with its own tests, so these
-//! stand apart from the reader that they call.
+//! Scenarios with the plan or the refusal that each must give. A crate with tests of its own is proved a second time with
+//! them, so these tests have a crate of their own.
 #![tactic(auto)]
 
 #[cfg(test)]

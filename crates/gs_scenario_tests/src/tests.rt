@@ -23,7 +23,7 @@ use gs_scenario::{Found, ScenarioFault, TableKind, Wanted, read_plan};
 use std::alloc::{AllocError, Global};
 use std::process::Abort;
 
-/// A text with another in the place of the first of these.
+/// Returns a text with the second part instead of the first one, at its first place.
 fn edited(alloc: Global, text: &str, old: &str, new: &str) -> Result<String, AllocError> {
     match text.split_once(old) {
         Some((front, back)) => format!(in alloc; "{front}{new}{back}"),
@@ -59,7 +59,7 @@ fn repeated(alloc: Global, text: &str, count: usize) -> Result<String, AllocErro
     Ok(all)
 }
 
-/// A list of `count` numbers, and no table among them.
+/// A list of `count` numbers and no tables.
 fn numbers(alloc: Global, count: usize) -> Result<String, AllocError> {
     let items = repeated(alloc, "0, ", count)?;
     format!(in alloc; "[{items}]")
@@ -72,7 +72,7 @@ fn nested(alloc: Global, depth: usize) -> Result<String, AllocError> {
     format!(in alloc; "{front}{back}")
 }
 
-/// What reading a scenario gives, as it is printed.
+/// Returns what reading a scenario gives, as it is printed.
 fn outcome(alloc: Global, text: &str) -> Result<String, AllocError> {
     match read_plan(alloc, text) {
         Ok(_plan) => String::from_str(alloc, "a plan"),
@@ -80,7 +80,7 @@ fn outcome(alloc: Global, text: &str) -> Result<String, AllocError> {
     }
 }
 
-/// The plan or the refusal of a scenario, with all that is in it.
+/// Returns the plan or the refusal of a scenario, with everything in it.
 fn written(alloc: Global, text: &str) -> Result<String, AllocError> {
     match read_plan(alloc, text) {
         Ok(plan) => format!(in alloc; "{plan:?}"),
@@ -190,8 +190,8 @@ fn numbers_of_parameters_have_their_ranges(rt: HostRuntime) -> Result<(), AllocE
     Ok(())
 }
 
-/// Checks that a key takes its lowest and its highest number, which give what they must, and neither
-/// one below, nor one above, nor another type.
+/// Checks that a key takes its lowest and its highest number, which give what they must. It must take no number below or
+/// above, and no other type.
 fn check_range<T: AllocGlobal + Abort>(rt: &T, range: &Range) -> Result<(), AllocError> {
     let (sort, _, at_lowest, at_highest) = range;
     check_number(rt, range, sort.low, at_lowest)?;

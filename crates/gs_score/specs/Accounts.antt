@@ -1,4 +1,4 @@
--- What is known of a neighbour, on all topics.
+-- What is known about a neighbour, on all topics.
 use Rattle.std.specs.Prelude.{◌≡◌, ℕ, suc, ℤ, pos, ◌+ℤ◌, Bool, false, ◌||◌, if◌then◌else◌, List, [], ◌∷◌, length, map}
 use Rattle.std.specs.Prelude.{is_some}
 use Rattle.std.specs.List.{list_any, IsDistinct}
@@ -40,12 +40,12 @@ standing_in topics t = unwrap_or (lookup (same_topic t) topics) fresh
 abbrev pub has_topic : List (Topic × Standing) → Topic → Bool
 has_topic topics t = is_some (lookup (same_topic t) topics)
 
--- it has something on this topic now, and on those of before
+-- it now has something on this topic, and still on the earlier ones
 pub record AddsTopic (old new : List (Topic × Standing)) (t : Topic) : Type 0 where
   pub topics : (u : Topic) → has_topic new u ≡ (same_topic t u || has_topic old u)
   pub number : length new ≡ (if has_topic old t then length old else suc (length old))
 
--- it has something on those topics on which it had
+-- it has something on the same topics as before
 pub record KeepsTopics (old new : List (Topic × Standing)) : Type 0 where
   pub topics : (u : Topic) → has_topic new u ≡ has_topic old u
   pub number : length new ≡ length old
@@ -60,7 +60,7 @@ total (x ∷ xs) = x +ℤ total xs
 abbrev pub topic_sum : Params → ℕ → (Topic → Held) → List Topic → ℤ
 topic_sum params now at ts = total (map (λ t. topic_part (rules_of params t) now (at t)) ts)
 
--- no topic stands twice, and each on which something is held stands
+-- no topic is listed twice, and each topic with something held on it is listed
 pub record Covers (at : Topic → Held) (ts : List Topic) : Type 0 where
   pub apart : IsDistinct same_topic ts
   pub all : (t : Topic) → list_any (same_topic t) ts ≡ false → at t ≡ nothing_held

@@ -1,4 +1,4 @@
--- Where neighbours are, and how many count at each address.
+-- The addresses of neighbours, and how many count at each.
 use Rattle.std.specs.Prelude.{ℕ, ℤ, pos, Bool, true, false, ◌&&◌, nat_eq, List, Option}
 use Rattle.std.specs.Cmp.Lexicographic.{pointwise}
 use Rattle.std.specs.Map.{lookup, set_value, values_of}
@@ -28,7 +28,7 @@ app_of addresses p = option_map_or (λ (x : AddressEntry). x.app) (address_entry
 abbrev pub is_counted : List (PeerNo × AddressEntry) → PeerNo → Bool
 is_counted addresses p = option_map_or (λ (x : AddressEntry). x.counted) (address_entry_at addresses p) false
 
--- it counts no more
+-- it no longer counts
 abbrev pub shut : AddressEntry → AddressEntry
 shut x = record x { counted = false }
 
@@ -54,6 +54,6 @@ abbrev pub number_with : List (PeerNo × AddressEntry) → PeerNo → ℕ
 number_with addresses p =
     option_map_or (λ (x : AddressEntry). number_at addresses x.address) (address_entry_at addresses p) 0
 
--- a number that is kept of an address
+-- the number that is stored for an address
 abbrev pub kept_number : List (List ℕ × ℕ) → List ℕ → ℕ
 kept_number numbers address = unwrap_or (lookup (same_address address) numbers) 0

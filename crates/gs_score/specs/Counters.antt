@@ -20,11 +20,11 @@ decayed d (suc n) x = decayed d n (decay_step d x)
 abbrev pub raised : ℕ → ℕ → ℕ → ℕ
 raised cap by x = min (x + by) cap
 
--- what is kept of a counter: a value, and the number of decays up to which it was decayed
+-- what is stored for a counter: a value, and the number of decays up to which it was decayed
 pub record Stored : Type 0 where
   pub value : ℕ
   pub decays : ℕ
 
--- its value after a number of decays: the steps that are missing are applied
+-- its value after a number of decays: the missing steps are applied
 abbrev pub read_at : Decay → ℕ → Stored → ℕ
 read_at d decays c = decayed d (decays - c.decays) c.value

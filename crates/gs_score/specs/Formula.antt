@@ -17,12 +17,12 @@ p1 r now (Some since) = min (1_000_000 * ((now - since.0) / r.timing.p1_quantum_
 abbrev pub p2 : Held → ℕ
 p2 h = h.first
 
--- in the mesh for as long as a new member has time
+-- it has been in the mesh for the activation time
 abbrev pub is_active : TopicRules → ℕ → Option Millis → Bool
 is_active r now None = false
 is_active r now (Some since) = nat_le r.timing.p3_activation_ms (now - since.0)
 
--- P3, mesh message delivery rate: the square of what is missing to the threshold, of a member that is active
+-- P3, mesh message delivery rate: the square of what an active member lacks to the threshold
 abbrev pub p3 : TopicRules → ℕ → Held → ℕ
 p3 r now h =
     if is_active r now h.since && nat_lt h.near r.factors.p3_threshold
@@ -37,7 +37,7 @@ p3b h = h.deficit
 abbrev pub p4 : Held → ℕ
 p4 h = squared h.invalid
 
--- the five under their weights
+-- the sum of the five, each times its weight
 abbrev pub weighed : TopicRules → ℕ → Held → ℤ
 weighed r now h =
     times r.factors.w1 (pos (p1 r now h.since))
@@ -50,13 +50,13 @@ weighed r now h =
 unfoldable pub topic_part : TopicRules → ℕ → Held → ℤ
 topic_part r now h = times r.factors.topic_weight (weighed r now h)
 
--- ---- of a neighbour, whatever the topic
+-- ---- the parts without a topic
 
 -- P5, the score that the application gives it
 abbrev pub p5 : ℤ → ℤ
 p5 app = app
 
--- P6, IP colocation: the square of how many more neighbours are at its address than may be
+-- P6, IP colocation: the square of how many neighbours are at its address above the threshold
 abbrev pub p6 : ℕ → ℕ → ℕ
 p6 threshold n = if nat_lt threshold n then squared (1_000_000 * (n - threshold)) else 0
 
@@ -64,7 +64,7 @@ p6 threshold n = if nat_lt threshold n then squared (1_000_000 * (n - threshold)
 abbrev pub p7 : ℕ → ℕ
 p7 misbehaviour = squared misbehaviour
 
--- at most the cap, where there is one
+-- limited to the cap, if there is one
 abbrev pub capped : ℕ → ℤ → ℤ
 capped cap x = if nat_lt 0 cap then int_min x (pos cap) else x
 

@@ -1,4 +1,4 @@
--- What happened to a peer's neighbours, and what counters and scores that makes.
+-- What happened to a peer's neighbours, and the counters and scores that follow from it.
 use Rattle.std.specs.Prelude.{Bool, true, ◌≡◌, ℕ, suc, ℤ, pos, int_lt, min, unsigned_abs, if◌then◌else◌, List, []}
 use Rattle.std.specs.Prelude.{◌∷◌, length, map, Option, Some, None}
 use Rattle.std.specs.List.{list_any}
@@ -31,7 +31,7 @@ use Rattle.gs_score.specs.Ledgers.{standing_of, topics_of}
 abbrev pub one : ℕ
 one = 1_000_000
 
--- what a deficit adds: no counter holds more
+-- what a deficit adds to a counter, which holds no more
 abbrev pub capped_deficit : ℤ → ℕ
 capped_deficit z = if int_lt z (pos 0) then 0 else min (unsigned_abs z) most_counted
 
@@ -42,7 +42,7 @@ pub record Raise : Type 0 where
   pub kind : Kind
   pub by : ℕ
 
--- the neighbour has something on the topic before
+-- the neighbour already has something on the topic
 abbrev pub is_known : List (PeerNo × Account) → Raise → Bool
 is_known accounts x = has_topic (topics_of accounts x.peer) x.topic
 
@@ -58,7 +58,7 @@ abbrev pub blamed : Mark → Option PeerNo
 blamed (marks.Misbehaviour p) = Some p
 blamed mark = None
 
--- a mark concerns a neighbour, with room for the topic
+-- a mark that raises a counter is about a neighbour, with room for its topic if it has one
 abbrev pub accepts : List (PeerNo × Account) → Mark → Bool
 accepts accounts (marks.First p t id) = has_room accounts p t
 accepts accounts (marks.Near p t id) = has_room accounts p t
@@ -67,12 +67,12 @@ accepts accounts (marks.Invalid p t) = has_room accounts p t
 accepts accounts (marks.Misbehaviour p) = has_account accounts p
 accepts accounts mark = true
 
--- a counter of a neighbour on a topic is raised, as it is after the decays so far
+-- a counter of a neighbour on a topic is raised, from its value after the decays so far
 abbrev pub RaisesIn : Kept → Kept → PeerNo → Topic → Kind → ℕ → Type 0
 RaisesIn old new p t kind by =
     PutsIn old new p t (raised_standing (rules_of old.params t) kind by old.decays (standing_of old.accounts p t))
 
--- what a mark makes of what is kept: what raises and blames nobody leaves it as it is
+-- how a mark changes what is kept: a mark that raises no counter and blames nobody changes nothing
 abbrev pub Applies : Kept → Kept → Mark → Type 0
 Applies old new (marks.First p t id) = RaisesIn old new p t First one
 Applies old new (marks.Near p t id) = RaisesIn old new p t Near one
@@ -93,10 +93,10 @@ pub data Change : Type 0 where
   Marked : Mark → Change
   -- all counters decayed by a step
   Decayed : Change
-  -- a neighbour came into the mesh of a topic at a moment, or left it
+  -- a neighbour entered the mesh of a topic at a moment, or left it
   Grafted : PeerNo → Topic → Millis → Change
   Left : PeerNo → Topic → Change
-  -- a neighbour went for good
+  -- a neighbour was shut out for ever
   ShutOut : PeerNo → Change
 
 -- all that happened, the newest first
@@ -124,7 +124,7 @@ abbrev pub held_by : Params → History → PeerNo → Topic → Held
 held_by params [] q t = nothing_held
 held_by params (c ∷ H) q t = held_after (rules_of params t) q t c (held_by params H q t)
 
--- the topics on which something happened that concerns a neighbour, each once
+-- the topics on which something happened to a neighbour, each once
 abbrev pub with_topic : Topic → List Topic → List Topic
 with_topic t ts = if list_any (same_topic t) ts then ts else t ∷ ts
 
@@ -159,7 +159,7 @@ addresses_in neighbours (c ∷ H) = addresses_in neighbours H
 
 -- ---- scores
 
--- how a peer scores, and its neighbours
+-- a peer's parameters and neighbours
 pub record Setting : Type 0 where
   pub params : Params
   pub neighbours : List Neighbour
@@ -173,7 +173,7 @@ score_in setting now H q ts =
     (number_with (addresses_in setting.neighbours H) q)
     (misbehaviour setting.params H q)
 
--- what is kept says what happened
+-- what is kept agrees with what happened
 pub record Agrees (setting : Setting) (k : Kept) (H : History) : Type 0 where
   pub params : k.params ≡ setting.params
   pub neighbours
@@ -186,7 +186,7 @@ pub record Agrees (setting : Setting) (k : Kept) (H : History) : Type 0 where
       : (q : PeerNo)
       → read_at (misbehaviour_decay setting.params) k.decays (misbehaviour_of k.accounts q)
       ≡ misbehaviour setting.params H q
-  -- it has something on the topics that are named, each once, and on no other
+  -- a neighbour has something on the topics that the history names for it, each once, and on no other
   pub knows : (q : PeerNo) (t : Topic) → has_topic (topics_of k.accounts q) t ≡ list_any (same_topic t) (named H q)
   pub counts : (q : PeerNo) → length (topics_of k.accounts q) ≡ length (named H q)
   pub addresses : k.addresses ≡ addresses_in setting.neighbours H

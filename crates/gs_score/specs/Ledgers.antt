@@ -29,7 +29,7 @@ account_of accounts q = unwrap_or (lookup (same_peer q) accounts) nothing_counte
 abbrev pub has_account : List (PeerNo × Account) → PeerNo → Bool
 has_account accounts q = is_some (lookup (same_peer q) accounts)
 
--- of neighbour p on topic t
+-- q and u are neighbour p and topic t
 abbrev pub same_pair : PeerNo → Topic → PeerNo → Topic → Bool
 same_pair p t q u = same_peer p q && same_topic t u
 
@@ -51,7 +51,7 @@ has_room accounts q t =
 abbrev pub AreFew : List (PeerNo × Account) → Type 0
 AreFew accounts = (q : PeerNo) → length (topics_of accounts q) ≤ most_topics
 
--- ---- steps
+-- ---- changes
 
 -- a neighbour gets this on a topic, and all else stays
 pub record Puts (old new : List (PeerNo × Account)) (p : PeerNo) (t : Topic) (s : Standing) : Type 0 where
@@ -61,12 +61,12 @@ pub record Puts (old new : List (PeerNo × Account)) (p : PeerNo) (t : Topic) (s
   pub misbehaviours : (q : PeerNo) → misbehaviour_of new q ≡ misbehaviour_of old q
   pub accounts : (q : PeerNo) → has_account new q ≡ has_account old q
 
--- a neighbour has something on this topic now, and each neighbour on those of before
+-- a neighbour now has something on this topic, and each neighbour still on its earlier ones
 pub record Adds (old new : List (PeerNo × Account)) (p : PeerNo) (t : Topic) : Type 0 where
   pub here : AddsTopic (topics_of old p) (topics_of new p) t
   pub others : (q : PeerNo) → same_peer p q ≡ false → KeepsTopics (topics_of old q) (topics_of new q)
 
--- each has something on those topics on which it had
+-- each neighbour has something on the same topics as before
 abbrev pub Keeps : List (PeerNo × Account) → List (PeerNo × Account) → Type 0
 Keeps old new = (q : PeerNo) → KeepsTopics (topics_of old q) (topics_of new q)
 
@@ -78,15 +78,15 @@ pub record Blames (old new : List (PeerNo × Account)) (p : PeerNo) (c : Stored)
 
 -- ---- all that is kept
 
--- the parameters, where neighbours are, what each has, and how often it decayed
+-- the parameters, the addresses of neighbours, what each one has, and how often counters decayed
 pub record Kept : Type 0 where
   pub params : Params
   pub addresses : List (PeerNo × AddressEntry)
   pub accounts : List (PeerNo × Account)
   pub decays : ℕ
 
--- what holds of it between calls: no counter was decayed more often than all were, and nothing is so large that a
--- score would not be exact
+-- what holds for it between calls: no counter was decayed past the number of decays, and no number is too large for exact
+-- scores
 pub record IsSound (k : Kept) : Type 0 where
   pub in_range : AreInRange k.params
   pub few : AreFew k.accounts
@@ -106,7 +106,7 @@ pub record BlamesIn (old new : Kept) (p : PeerNo) (c : Stored) : Type 0 where
   pub rest : new ≡ record old { accounts = new.accounts }
   pub blames : Blames old.accounts new.accounts p c
 
--- a neighbour gets this on a topic, each has something on those topics on which it had, and all else stays
+-- a neighbour gets this on a topic, each has something on the same topics as before, and all else stays
 pub record ReplacesIn (old new : Kept) (p : PeerNo) (t : Topic) (s : Standing) : Type 0 where
   pub rest : new ≡ record old { accounts = new.accounts }
   pub puts : Puts old.accounts new.accounts p t s

@@ -2,11 +2,11 @@
 use Rattle.std.specs.Prelude.{ℕ, ◌*◌, ◌/◌, ℤ, pos, ◌*ℤ◌}
 use Rattle.std.specs.Int.{int_div_euclid}
 
--- of a weight and an amount: towards minus infinity
+-- the product of a weight and an amount, rounded towards minus infinity
 unfoldable pub times : ℤ → ℤ → ℤ
 times a b = int_div_euclid (a *ℤ b) (pos 1_000_000)
 
--- of amounts that are not negative
+-- the product of amounts that are not negative
 abbrev pub scaled : ℕ → ℕ → ℕ
 scaled a b = a * b / 1_000_000
 

@@ -14,11 +14,11 @@ use Rattle.gs_score.specs.Accounts.{topic_sum}
 use Rattle.gs_score.specs.Addresses.{app_of, number_with}
 use Rattle.gs_score.specs.Histories.{History, Setting, addresses_in, held_by, misbehaviour}
 
--- what is counted, and an amount made of it under a weight
+-- what is counted, and an amount that follows from it, times a weight
 abbrev pub part_of : ℤ → ℤ → ℤ → Part
 part_of counted weight amount = record { counted = counted; weighed = times weight amount }
 
--- ---- of a topic
+-- ---- the parts of a topic
 
 abbrev pub time_in_mesh : TopicRules → ℕ → Held → Part
 time_in_mesh r now h = part_of (pos (p1 r now h.since)) r.factors.w1 (pos (p1 r now h.since))
@@ -26,7 +26,7 @@ time_in_mesh r now h = part_of (pos (p1 r now h.since)) r.factors.w1 (pos (p1 r 
 abbrev pub first_message_deliveries : TopicRules → Held → Part
 first_message_deliveries r h = part_of (pos (p2 h)) r.factors.w2 (pos (p2 h))
 
--- the counter, and the square of what is missing of it
+-- the counter, and the square of what it lacks
 abbrev pub mesh_message_deliveries : TopicRules → ℕ → Held → Part
 mesh_message_deliveries r now h = part_of (pos h.near) r.factors.w3 (pos (p3 r now h))
 
@@ -47,9 +47,9 @@ topic_parts r now h = record {
   topic_score = topic_part r now h;
 }
 
--- ---- of a neighbour, whatever the topic
+-- ---- the parts without a topic
 
--- by the sum over topics, the score of the application, the neighbours at the address, and misbehaviour
+-- from the sum over topics, the score of the application, the neighbours at the address, and misbehaviour
 abbrev pub score_parts_of : Factors → ℤ → ℤ → ℕ → ℕ → ScoreParts
 score_parts_of f topics app n misbehaviour = record {
   topic_sum = topics;
@@ -61,7 +61,7 @@ score_parts_of f topics app n misbehaviour = record {
   score = score_of f topics app n misbehaviour;
 }
 
--- of a neighbour at a moment, over these topics
+-- the parts of a neighbour's score at a moment, over these topics
 abbrev pub score_parts : Setting → ℕ → History → PeerNo → List Topic → ScoreParts
 score_parts setting now H q ts =
     score_parts_of setting.params.factors

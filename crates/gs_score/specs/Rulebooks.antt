@@ -12,7 +12,7 @@ use Rattle.gs_score.specs.Standings.{Held}
 use Rattle.gs_score.specs.Formula.{topic_part}
 use Rattle.gs_score.specs.Accounts.{rules_of}
 
--- a topic with these parameters of its own
+-- the rules of a topic with its own parameters
 abbrev pub rules_with : Params → TopicParams → TopicRules
 rules_with params found = record {
   factors = found.factors;
@@ -20,11 +20,11 @@ rules_with params found = record {
   decay_to_zero = params.factors.decay_to_zero;
 }
 
--- a topic that the parameters do not name
+-- the rules of a topic that the parameters do not name
 abbrev pub default_rules : Params → TopicRules
 default_rules params = rules_with params default_topic_params
 
--- a table that says of each topic how it is scored, and the rules of all topics that it lacks
+-- a table with the rules of topics, and the rules of all topics that it lacks
 abbrev pub TellsRules : Params → List (Topic × TopicRules) → TopicRules → Type 0
 TellsRules params rules others = (t : Topic) → unwrap_or (lookup (same_topic t) rules) others ≡ rules_of params t
 
@@ -32,7 +32,7 @@ TellsRules params rules others = (t : Topic) → unwrap_or (lookup (same_topic t
 abbrev pub NothingWeighs : Params → Type 0
 NothingWeighs params = (t : Topic) (now : ℕ) (h : Held) → topic_part (rules_of params t) now h ≡ pos 0
 
--- what holds of parameters, their table, the rules of all other topics, and whether any topic may weigh
+-- what holds for parameters, their table, the rules of all other topics, and whether any topic may weigh
 pub record IsRulebook (p : Params) (table : List (Topic × TopicRules)) (others : TopicRules) (any : Bool) : Type 0 where
   pub in_range : AreInRange p
   pub rules : TellsRules p table others

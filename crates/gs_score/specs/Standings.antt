@@ -9,7 +9,7 @@ use Rattle.gs_score.specs.declared.standing.Kind.TheVariants.{First, Near, Defic
 use Rattle.gs_score.specs.declared.standing.Standing.{Standing}
 use Rattle.gs_score.specs.Counters.{Stored, most_counted, decay_step, raised, read_at}
 
--- ---- how each counter decays, and up to where it is raised
+-- ---- how each counter decays, and its cap
 
 abbrev pub decay_of : TopicRules → Kind → Decay
 decay_of r First = record { factor = r.factors.p2_decay; floor = r.decay_to_zero }
@@ -26,7 +26,7 @@ cap_of r Invalid = most_counted
 
 -- ---- what a neighbour has on a topic after a number of decays
 
--- since when it is in the mesh, where it is, and its counters, in millionths
+-- since when it is in the mesh, if it is, and its counters, in millionths
 pub record Held : Type 0 where
   pub since : Option Millis
   pub first : ℕ
@@ -81,7 +81,7 @@ with_stored Invalid c s = record s { invalid = c }
 abbrev pub read : TopicRules → ℕ → Standing → Kind → ℕ
 read r decays s kind = read_at (decay_of r kind) decays (stored kind s)
 
--- what is held after a number of decays: each counter decayed by the steps that it lacks
+-- what is held after a number of decays: each counter decayed by its missing steps
 abbrev pub held : TopicRules → ℕ → Standing → Held
 held r decays s = record {
   since = s.since;
@@ -91,7 +91,7 @@ held r decays s = record {
   invalid = read r decays s Invalid;
 }
 
--- a raise keeps the counter as it is after these decays
+-- a raise stores the counter as it is after these decays
 abbrev pub raised_stored : TopicRules → Kind → ℕ → ℕ → Standing → Stored
 raised_stored r kind by decays s = record { value = raised (cap_of r kind) by (read r decays s kind); decays = decays }
 

@@ -22,19 +22,19 @@ use gs_params::Params;
 use indexmap::IndexMap;
 use std::alloc::{AllocError, Global};
 
-/// What is counted of a neighbour.
+/// What is counted for a neighbour.
 #[derive(Drop)]
 pub struct Account {
-    /// What counts on single topics (P1 to P4).
+    /// What is counted by topic (P1 to P4).
     pub topics: TopicStandings,
-    /// How it misbehaved, whatever the topic (P7).
+    /// Its misbehaviour, which has no topic (P7).
     pub misbehaviour: Counter,
 }
 
-/// Nothing is counted of any neighbour yet.
+/// Returns an empty account for each neighbour.
 ///
 /// # Errors
-/// `AllocError` where there was no memory.
+/// `AllocError` when out of memory.
 pub(crate) fn open_accounts(
     alloc: Global,
     neighbours: &[Neighbour],
@@ -84,7 +84,7 @@ pub(crate) fn has_account(accounts: &IndexMap<PeerNo, Account>, peer: PeerNo) ->
     accounts.get(&peer).is_some()
 }
 
-/// Whether a neighbour has something on a topic, or room for one more.
+/// Says whether a neighbour has something on a topic, or room for one more.
 pub(crate) fn has_room(accounts: &IndexMap<PeerNo, Account>, peer: PeerNo, topic: &Topic) -> bool
     ensures { result ≡ has_room accounts.now.entries peer topic.now }
 {
@@ -94,11 +94,11 @@ pub(crate) fn has_room(accounts: &IndexMap<PeerNo, Account>, peer: PeerNo, topic
     }
 }
 
-/// Raises a counter of a neighbour on a topic, as it is after these decays. It takes memory only where the neighbour
-/// had nothing on the topic.
+/// Raises a counter of a neighbour on a topic, from its value after these decays. It takes memory only if the neighbour had
+/// nothing on the topic.
 ///
 /// # Errors
-/// `AllocError` where there was no memory; nothing is changed then.
+/// `AllocError` when out of memory; nothing is changed then.
 pub(crate) fn raise_standing(
     accounts: &mut IndexMap<PeerNo, Account>,
     peer: PeerNo,
@@ -124,10 +124,10 @@ pub(crate) fn raise_standing(
     }
 }
 
-/// A neighbour comes into the mesh of a topic. It takes memory only where the neighbour had nothing on the topic.
+/// Puts a neighbour into the mesh of a topic. It takes memory only if the neighbour had nothing on the topic.
 ///
 /// # Errors
-/// `AllocError` where there was no memory; nothing is changed then.
+/// `AllocError` when out of memory; nothing is changed then.
 pub(crate) fn graft_standing(
     accounts: &mut IndexMap<PeerNo, Account>,
     peer: PeerNo,
@@ -152,7 +152,7 @@ pub(crate) fn graft_standing(
     }
 }
 
-/// A neighbour leaves the mesh of a topic. It takes no memory.
+/// Takes a neighbour out of the mesh of a topic. It takes no memory.
 pub(crate) fn prune_standing(accounts: &mut IndexMap<PeerNo, Account>, peer: PeerNo, topic: &Topic)
     requires few { AreFew accounts.old.entries }
     ensures puts { Puts accounts.old.entries accounts.new.entries peer topic.now
@@ -165,7 +165,7 @@ pub(crate) fn prune_standing(accounts: &mut IndexMap<PeerNo, Account>, peer: Pee
     }
 }
 
-/// Raises how a neighbour misbehaved by an amount, as it is after these decays. It takes no memory.
+/// Raises the misbehaviour of a neighbour by an amount, from its value after these decays. It takes no memory.
 pub(crate) fn blame(
     accounts: &mut IndexMap<PeerNo, Account>,
     peer: PeerNo,
@@ -185,9 +185,9 @@ pub(crate) fn blame(
     }
 }
 
-/// What the topics of a neighbour give together, in millionths, at most 1,024 * 10^25 either way, and how it
-/// misbehaved, in millionths: 0 to 10^12. It is looked up once.
-// Each score takes this way: inlined, it costs as much as where nothing else calls it.
+/// Returns what the topics of a neighbour give together, and its misbehaviour, both in millionths. The first is at most
+/// 1,024 * 10^25 either way, and the second 0 to 10^12. The neighbour is looked up only once.
+// Each score calls this. Inlined, it costs as much as code with only one caller.
 #[inline(always)]
 pub(crate) fn counts_of(
     accounts: &IndexMap<PeerNo, Account>,
@@ -215,10 +215,10 @@ pub(crate) fn counts_of(
     }
 }
 
-/// The topics on which something is kept of a neighbour, each once, in any order.
+/// Returns the topics on which something is kept for a neighbour, each once, in any order.
 ///
 /// # Errors
-/// `AllocError` where there was no memory.
+/// `AllocError` when out of memory.
 pub(crate) fn topics_of(
     alloc: Global,
     accounts: &IndexMap<PeerNo, Account>,
@@ -236,7 +236,7 @@ pub(crate) fn topics_of(
     }
 }
 
-/// How misbehaviour decays.
+/// Returns how misbehaviour decays.
 pub(crate) fn misbehaviour_decay(params: &Params) -> Decay
     requires in_range { AreInRange params.now }
     ensures value { result ≡ misbehaviour_decay params.now }

@@ -10,18 +10,19 @@ use indexmap::IndexMap;
 use std::alloc::{AllocError, Global};
 use std::marker::Model;
 
-/// Where a neighbour is, and what the application thinks of it.
+/// The address of a neighbour, and its application score.
 #[derive(Debug, Drop)]
 pub struct AddressEntry {
     /// The score that the application gives it, in millionths (P5).
     pub app: i128,
-    /// Neighbours at one address count against each other (P6).
+    /// Its address. Neighbours at one address count against each other (P6).
     pub address: Bytes,
-    /// Whether it counts there: until it is shut out.
+    /// Whether it counts at its address. It does until it is shut out.
     pub counted: bool,
 }
 
-/// Where all neighbours are. How many count at each address is kept, so that a score searches no neighbour.
+/// The addresses of all neighbours. How many count at each address is stored, so that a score need not search the
+/// neighbours.
 #[derive(Drop)]
 pub struct Addresses {
     addresses: IndexMap<PeerNo, AddressEntry>,
@@ -43,10 +44,11 @@ impl Model for Addresses {
 }
 
 impl Addresses {
-    /// The addresses of neighbours. Each counts at its address. Of neighbours with the same number the last counts.
+    /// Returns the addresses of neighbours. Each counts at its address. If neighbours have the same number, only the last
+    /// one counts.
     ///
     /// # Errors
-    /// `AllocError` where there was no memory.
+    /// `AllocError` when out of memory.
     pub fn new(alloc: Global, neighbours: &[Neighbour]) -> Result<Addresses, AllocError>
         ensures { IfOk result (λ p. p ≡ insert_all same_peer [] (map address_entry_of neighbours.now)) }
     {
@@ -55,7 +57,7 @@ impl Addresses {
         Ok(Addresses { addresses, numbers })
     }
 
-    /// The score that the application gives a neighbour, in millionths: 0 of one that is none.
+    /// Returns the score that the application gives a neighbour, in millionths. It is 0 for a peer that is no neighbour.
     pub fn app(&self, peer: PeerNo) -> i128
         ensures { result ≡ app_of self.now peer }
     {
@@ -65,7 +67,7 @@ impl Addresses {
         }
     }
 
-    /// How many neighbours count at the address of one.
+    /// Returns how many neighbours count at a neighbour's address.
     pub fn number_with(&self, peer: PeerNo) -> u64
         ensures { result ≡ number_with self.now peer }
     {
@@ -75,8 +77,8 @@ impl Addresses {
         }
     }
 
-    /// Both, where the neighbour is looked up once.
-    // Each score takes this way: inlined, it costs as much as where nothing else calls it.
+    /// Returns what `app` and `number_with` return, but looks the neighbour up only once.
+    // Each score calls this. Inlined, it costs as much as code with only one caller.
     #[inline(always)]
     pub(crate) fn app_and_number(&self, peer: PeerNo) -> (i128, u64)
         ensures app { result.0 ≡ app_of self.now peer }
@@ -88,7 +90,7 @@ impl Addresses {
         }
     }
 
-    /// A neighbour counts no more at its address. It takes no memory.
+    /// Stops counting a neighbour at its address. It takes no memory.
     pub fn shut_out(&mut self, peer: PeerNo)
         ensures { self.new ≡ shut_out peer self.old }
     {
@@ -111,10 +113,10 @@ fn is_counted(addresses: &IndexMap<PeerNo, AddressEntry>, peer: PeerNo) -> bool
     }
 }
 
-/// The addresses of neighbours.
+/// Returns the addresses of neighbours.
 ///
 /// # Errors
-/// `AllocError` where there was no memory.
+/// `AllocError` when out of memory.
 fn enter_all(
     alloc: Global,
     neighbours: &[Neighbour],
@@ -133,10 +135,10 @@ fn enter_all(
     Ok(addresses)
 }
 
-/// How many count at each address.
+/// Returns how many neighbours count at each address.
 ///
 /// # Errors
-/// `AllocError` where there was no memory.
+/// `AllocError` when out of memory.
 fn number_all(
     alloc: Global,
     addresses: &IndexMap<PeerNo, AddressEntry>,
@@ -154,7 +156,7 @@ fn number_all(
 /// Counts the neighbour at an index.
 ///
 /// # Errors
-/// `AllocError` where there was no memory.
+/// `AllocError` when out of memory.
 fn number_one(
     numbers: &mut IndexMap<Bytes, u64>,
     addresses: &IndexMap<PeerNo, AddressEntry>,
@@ -178,7 +180,7 @@ fn number_one(
 /// Counts a neighbour at its address.
 ///
 /// # Errors
-/// `AllocError` where there was no memory.
+/// `AllocError` when out of memory.
 fn raise(numbers: &mut IndexMap<Bytes, u64>, entry: &AddressEntry) -> Result<(), AllocError>
     requires few { (address : List ℕ) → kept_number numbers.old.entries address < 2 ^ 64 - 1 }
     ensures { OnOk result ((address : List ℕ)
@@ -193,7 +195,7 @@ fn raise(numbers: &mut IndexMap<Bytes, u64>, entry: &AddressEntry) -> Result<(),
     Ok(())
 }
 
-/// Counts one neighbour less at an address.
+/// Counts one neighbour fewer at an address.
 fn count_one_fewer(numbers: &mut IndexMap<Bytes, u64>, address: &Bytes)
     ensures { (a : List ℕ)
         → kept_number numbers.new.entries a
@@ -204,7 +206,7 @@ fn count_one_fewer(numbers: &mut IndexMap<Bytes, u64>, address: &Bytes)
     }
 }
 
-/// How many count at an address, by what is kept.
+/// Returns how many neighbours count at an address, by the stored numbers.
 fn number_of(numbers: &IndexMap<Bytes, u64>, address: &Bytes) -> u64
     ensures { result ≡ kept_number numbers.now.entries address.now }
 {

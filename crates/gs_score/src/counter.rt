@@ -1,4 +1,4 @@
-//! A counter that decays, and does so only when it is looked at.
+//! A counter that decays. The steps of decay are applied only when it is read or raised.
 ghost use Rattle.std.specs.Prelude.{◌≡◌, ◌≤◌, ◌<◌, ◌^◌};
 ghost use Rattle.gs_score.specs.Counters.{decay_step, decayed, raised, read_at};
 ghost use Rattle.gs_score.specs.Histories.{capped_deficit};
@@ -14,7 +14,7 @@ pub const MOST_COUNTED: u64 = 1_000_000_000_000;
 pub struct Decay {
     /// What a step of decay leaves of the counter, in millionths: 0 to 1,000,000.
     pub factor: u64,
-    /// With less than this left, in millionths, a counter becomes 0.
+    /// If a step leaves less than this, in millionths, the counter becomes 0.
     pub floor: u64,
 }
 
@@ -32,9 +32,9 @@ impl Decay {
         left
     }
 
-    /// What this many steps leave of a value. It ends where a step changes nothing, or leaves nothing. It makes steps
-    /// at once that take the same: a counter that was not looked at for long costs no more than the ways in which a
-    /// step changes it.
+    /// Returns what this many steps leave of a value. It stops when a step changes nothing, or leaves 0. It applies steps
+    /// that take the same amount at once. So the cost depends on how many different amounts the steps take, and not on
+    /// their number.
     fn after(self, value: u64, steps: u64) -> u64
         requires factor { self.factor ≤ 10 ^ 6 }
         requires value { value ≤ 10 ^ 12 }
@@ -58,8 +58,8 @@ impl Decay {
         held
     }
 
-    /// As many of the next steps as take the same of a value, at most `most`, and what they leave of it. It is only
-    /// the next one where looking for more would cost more.
+    /// Returns a number of next steps that all take the same amount, at most `most`, and what they leave of the value. It
+    /// returns only the next step where looking for more would cost more.
     fn stride(self, value: u64, next: u64, most: u64) -> (u64, u64)
         requires factor { self.factor ≤ 10 ^ 6 }
         requires value { value ≤ 10 ^ 12 }
@@ -88,16 +88,16 @@ impl Decay {
         if rest < self.floor {
             return (1, next);
         }
-        // The first of them and the last take the same, and so do those between them.
+        // The first and the last of these steps take the same amount, and so do those between them.
         if scaled(self.factor, rest + fall) != rest {
             return (1, next);
         }
         (steps, rest)
     }
 
-    /// How many steps in a row take the same of a value as the first. That is a share of it, rounded up: it stays
-    /// while the product does not fall to the next whole number, and while the floor is not passed. Of few steps it
-    /// is 1.
+    /// Returns how many steps in a row take the same amount of a value as the first. The amount is a share of the value,
+    /// rounded up. It stays the same until the product falls to the next whole number, or the value passes the floor. The
+    /// result is 1 if only few steps take the same amount.
     fn even_steps(self, value: u64, fall: u64) -> u64
         ensures { 0 < result }
     {
@@ -112,16 +112,17 @@ impl Decay {
     }
 }
 
-/// Fewer steps than these are made one by one.
+/// Fewer steps than this are applied one by one.
 const FEW_STEPS: u64 = 8;
 
-/// Steps that fall faster take the same a few times in a row at most: by this many millionths of a millionth.
+/// If the amount of a step falls faster than this, at most a few steps in a row take the same. It is in millionths of a
+/// millionth.
 const STEEP: u64 = 250_000;
 
 /// A counter that decays by steps, which are numbered from 1 on.
 ///
-/// It keeps a value and the number of decays up to which that was decayed. A read applies the steps that are missing
-/// and keeps nothing of them; a raise applies them too, and keeps what it makes.
+/// It stores a value, and the number of decays up to which that was decayed. A read applies the missing steps, but stores
+/// nothing. A raise applies them too, and stores the new value.
 #[derive(Clone, Copy, Debug, PartialEq, Eq)]
 pub struct Counter {
     value: u64,
@@ -142,7 +143,7 @@ impl Model for Counter {
 }
 
 impl Counter {
-    /// A counter of 0, before the first step.
+    /// Returns a counter of 0, before the first step.
     pub fn new() -> Counter
         ensures { result ≡ record { value = 0; decays = 0 } }
     {
@@ -152,8 +153,8 @@ impl Counter {
         }
     }
 
-    /// The value after this number of decays, in millionths: 0 to 10^12. A number that was passed takes
-    /// nothing back.
+    /// Returns the value after this number of decays, in millionths: 0 to 10^12. A number below the stored one undoes no
+    /// decay.
     pub fn read(&self, decay: Decay, decays: u64) -> u64
         requires factor { decay.factor ≤ 10 ^ 6 }
         ensures value { result ≡ read_at decay decays self.now }
@@ -166,7 +167,7 @@ impl Counter {
         decay.after(self.value, missing)
     }
 
-    /// Raises the value that it has after these decays by an amount, up to a cap, in millionths.
+    /// Raises the value that the counter has after these decays by an amount, up to a cap, in millionths.
     pub fn raise(&mut self, by: u64, cap: u64, decay: Decay, decays: u64)
         requires factor { decay.factor ≤ 10 ^ 6 }
         requires cap { cap ≤ 10 ^ 12 }
@@ -180,7 +181,7 @@ impl Counter {
         self.decays = decays;
     }
 
-    /// The kept value, in millionths, and the number of decays up to which it was decayed.
+    /// Returns the stored value, in millionths, and the number of decays up to which it was decayed.
     pub fn stored(&self) -> (u64, u64)
         ensures { result ≡ (self.now.value, self.now.decays) }
     {
@@ -188,8 +189,8 @@ impl Counter {
     }
 }
 
-/// What a deficit adds to a counter, which holds no more than 10^12. The amount comes by reference: a proof knows only
-/// the bits of a copied number.
+/// Returns what a deficit adds to a counter, which holds no more than 10^12. The amount is passed by reference: a proof
+/// knows only the bits of a copied number.
 pub(crate) fn capped_deficit(amount: &i128) -> u64
     ensures { result ≡ capped_deficit amount.now }
 {

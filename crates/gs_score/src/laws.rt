@@ -1,4 +1,4 @@
-//! Laws of scores. Each holds by its definitions only, and its function does nothing.
+//! Laws about scores. Each states facts about definitions only, and its function does nothing.
 ghost use Rattle.std.specs.Prelude.{◌≡◌, ℕ, ◌+◌, ◌+ℤ◌, ◌≤◌, pos, Bool, true, [], List, length, map};
 ghost use Rattle.std.specs.List.{AllByRecursion, list_any};
 ghost use Rattle.gs_base.specs.Names.{most_topics, same_peer, same_topic};
@@ -21,40 +21,39 @@ ghost use Rattle.gs_score.specs.declared.counter.Decay.{Decay as DecayValue};
 
 use crate::counter::MOST_COUNTED;
 
-/// Products of weights that are not negative and amounts are those of amounts.
+/// `times` and `scaled` give the same product if no factor is negative.
 pub fn products_of_amounts_are_scaled()
     ensures { (a b : ℕ) → times (pos a) (pos b) ≡ pos (scaled a b) }
 {}
 
-/// What a counter is read as after some more steps is what those steps make of what it was read as before.
+/// A later read gives what the further steps of decay leave of the earlier read.
 pub fn a_later_read_decays_on()
     ensures { (d : DecayValue) (c : Stored) (decays n : ℕ)
         → c.decays ≤ decays
         → read_at d (decays + n) c ≡ decayed d n (read_at d decays c) }
 {}
 
-/// A step of decay makes of all that a standing holds what it makes of each counter.
+/// A step of decay changes what a standing holds as it changes each counter.
 pub fn a_standing_decays_by_its_counters()
     ensures { (r : TopicRulesValue) (decays : ℕ) (s : StandingValue)
         → IsUpTo decays s
         → held r (decays + 1) s ≡ decayed_held r (held r decays s) }
 {}
 
-/// The topics that a history names leave none out on which a neighbour has something, so that its score is that over
-/// these.
+/// A history names each topic on which a neighbour has something. So its score is the score over these topics.
 pub fn named_topics_leave_none_out()
     ensures { (params : ParamsValue) (H : History) (q : PeerNoValue) → Covers (held_by params H q) (named H q) }
 {}
 
-/// A test that each topic passes which a change of a history names, all pass that the history names.
+/// If each topic that a change of a history names passes a test, each topic that the history names passes it.
 pub fn changes_name_all_that_is_named()
     ensures { (test : TopicValue → Bool) (H : History) (q : PeerNoValue)
         → AllByRecursion (λ change. AllByRecursion (λ t. test t ≡ true) (named_after q change [])) H
         → AllByRecursion (λ t. test t ≡ true) (named H q) }
 {}
 
-/// There is room for a neighbour's topic where it is on a list of at most 1,024 topics together with all that the
-/// history names of the neighbour.
+/// A neighbour has room for a topic if a list of at most 1,024 topics holds it and all that the history names for the
+/// neighbour.
 pub fn there_is_room_for_what_fits_a_list()
     ensures { (s : Setting) (k : Kept) (H : History) (q : PeerNoValue) (t : TopicValue) (ts : List TopicValue)
         → list_any (λ (n : NeighbourValue). same_peer q n.peer) s.neighbours ≡ true
@@ -65,8 +64,8 @@ pub fn there_is_room_for_what_fits_a_list()
         → has_room k.accounts q t ≡ true }
 {}
 
-/// A topic gives the sum of what its parts weigh, under its weight. A score is the capped sum of what its topics give,
-/// and what its other parts weigh.
+/// A topic gives the sum of what its parts weigh, times its own weight. A score is the capped sum of what the topics give,
+/// plus what the other parts weigh.
 pub fn parts_make_up_a_score()
     ensures topic { (r : TopicRulesValue) (now : ℕ) (h : Held)
         → (topic_parts r now h).topic_score
@@ -92,7 +91,7 @@ pub fn parts_make_up_a_score()
         → (score_parts s now H q ts).score ≡ score_in s now H q ts }
 {}
 
-/// The limit of counters is that of the definitions.
+/// The limit of counters in code equals that in the definitions.
 pub fn limits_of_counters()
     ensures { MOST_COUNTED ≡ most_counted }
 {}

@@ -3,8 +3,8 @@ ghost use Rattle.std.specs.Prelude.{◌≡◌, ◌≤◌, ◌^◌, pos, ◌+ℤ�
 ghost use Rattle.std.specs.Int.{w128};
 ghost use Rattle.gs_score.specs.Millionths.{scaled, squared, times};
 
-/// The product of a weight and an amount, rounded down: towards minus infinity, so that -1 times 500,000
-/// millionths is -1. The weight is at most 10^9 either way, and the amount at most 10^24.
+/// Returns the product of a weight and an amount, rounded down: towards minus infinity, so that -1 times 500,000 millionths
+/// is -1. The weight is at most 10^9 either way, and the amount at most 10^24.
 pub fn times(weight: i64, amount: i128) -> i128
     requires weight { unsigned_abs weight ≤ 10 ^ 9 }
     requires amount { unsigned_abs amount ≤ 10 ^ 24 }
@@ -16,7 +16,7 @@ pub fn times(weight: i64, amount: i128) -> i128
     }
 }
 
-/// The product where all of it fits 64 bits: that is the case of most, and costs a tenth.
+/// Returns the product if it fits 64 bits before it is scaled. Most products do, at a tenth of the cost.
 #[tactic(auto, unfolding(crate::specs::Millionths::times))]
 fn small_product(weight: i64, amount: i128) -> Option<i128>
     ensures { IfSome result (λ product. product ≡ times weight amount) }
@@ -28,7 +28,7 @@ fn small_product(weight: i64, amount: i128) -> Option<i128>
     Some(i128::from(product.div_euclid(1_000_000)))
 }
 
-/// A product that fits, rounded down.
+/// Returns a product that fits, rounded down.
 #[tactic(auto, unfolding(crate::specs::Millionths::times))]
 fn product(a: i128, b: i128) -> i128
     requires { FitsSigned w128 (a *ℤ b) }
@@ -37,7 +37,7 @@ fn product(a: i128, b: i128) -> i128
     (a * b).div_euclid(1_000_000)
 }
 
-/// An amount of at most 10^18 under a weight: at most 10^21 either way.
+/// Returns an amount of at most 10^18, times a weight. The result is at most 10^21 either way.
 pub(crate) fn weighed(weight: i64, amount: u64) -> i128
     requires weight { unsigned_abs weight ≤ 10 ^ 9 }
     requires amount { amount ≤ 10 ^ 18 }
@@ -47,7 +47,7 @@ pub(crate) fn weighed(weight: i64, amount: u64) -> i128
     times(weight, amount as i128)
 }
 
-/// A sum of at most 10^22 either way under a weight: at most 10^25 either way.
+/// Returns a sum of at most 10^22 either way, times a weight. The result is at most 10^25 either way.
 pub(crate) fn weighed_sum(weight: i64, sum: i128) -> i128
     requires weight { unsigned_abs weight ≤ 10 ^ 9 }
     requires sum { unsigned_abs sum ≤ 10 ^ 22 }
@@ -57,7 +57,7 @@ pub(crate) fn weighed_sum(weight: i64, sum: i128) -> i128
     times(weight, sum)
 }
 
-/// The sum of five amounts of at most 10^21 either way.
+/// Returns the sum of five amounts of at most 10^21 either way.
 pub(crate) fn sum_of_five(a: i128, b: i128, c: i128, d: i128, e: i128) -> i128
     requires a { unsigned_abs a ≤ 10 ^ 21 }
     requires b { unsigned_abs b ≤ 10 ^ 21 }
@@ -70,7 +70,7 @@ pub(crate) fn sum_of_five(a: i128, b: i128, c: i128, d: i128, e: i128) -> i128
     a + b + c + d + e
 }
 
-/// The sum of four amounts of at most 10^29 either way.
+/// Returns the sum of four amounts of at most 10^29 either way.
 pub(crate) fn sum_of_four(a: i128, b: i128, c: i128, d: i128) -> i128
     requires a { unsigned_abs a ≤ 10 ^ 29 }
     requires b { unsigned_abs b ≤ 10 ^ 29 }
@@ -82,7 +82,7 @@ pub(crate) fn sum_of_four(a: i128, b: i128, c: i128, d: i128) -> i128
     a + b + c + d
 }
 
-/// The part of an amount that a factor leaves, rounded down. Both are at most 10^12.
+/// Returns the product of a factor and an amount, rounded down. Both are at most 10^12.
 pub fn scaled(factor: u64, amount: u64) -> u64
     requires factor { factor ≤ 10 ^ 12 }
     requires amount { amount ≤ 10 ^ 12 }
@@ -95,7 +95,7 @@ pub fn scaled(factor: u64, amount: u64) -> u64
     }
 }
 
-/// The square of an amount of at most 10^12, rounded down.
+/// Returns the square of an amount of at most 10^12, rounded down.
 pub fn squared(amount: u64) -> u64
     requires { amount ≤ 10 ^ 12 }
     ensures value { result ≡ squared amount }

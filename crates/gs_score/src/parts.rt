@@ -18,13 +18,13 @@ pub struct TopicParts {
     pub time_in_mesh: Part,
     /// Messages that it was the first to deliver (P2).
     pub first_message_deliveries: Part,
-    /// Messages that it delivered as a mesh member. The square of what is missing weighs (P3).
+    /// Messages that it delivered as a mesh member. The square of what is missing is weighed (P3).
     pub mesh_message_deliveries: Part,
-    /// What was missing of those when it left the mesh, squared (P3b).
+    /// How many of those were missing when it left the mesh, squared (P3b).
     pub mesh_failure_penalty: Part,
-    /// Invalid messages. Their square weighs (P4).
+    /// Invalid messages. The square of the counter is weighed (P4).
     pub invalid_message_deliveries: Part,
-    /// What the topic adds to the score: the sum of what the five weigh, under the weight of the topic.
+    /// What the topic adds to the score: the sum of what the five weigh, times the weight of the topic.
     pub topic_score: i128,
 }
 
@@ -33,16 +33,16 @@ pub struct TopicParts {
 pub struct ScoreParts {
     /// What all topics add, before the cap.
     pub topic_sum: i128,
-    /// The same, at most the cap, where there is one.
+    /// The same, limited to the cap if there is one.
     pub capped_topic_sum: i128,
     /// The score that the application gives the neighbour (P5).
     pub app_specific_score: Part,
     /// How many neighbours count at its address, as a whole number.
     pub neighbours_at_address: u64,
-    /// What their number weighs, squared where it is above the threshold (P6).
+    /// What the square of their number above the threshold weighs (P6).
     pub ip_colocation_factor: i128,
-    /// How it misbehaved. The square weighs (P7).
+    /// Its misbehaviour. The square is weighed (P7).
     pub behaviour_penalty: Part,
-    /// The score: the sum of the capped topics and of what the other three weigh.
+    /// The score: the sum of the capped topics and what the other three parts weigh.
     pub score: i128,
 }

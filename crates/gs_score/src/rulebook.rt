@@ -1,4 +1,4 @@
-//! How each topic is scored, in a table.
+//! A table of how each topic is scored.
 ghost use Rattle.std.specs.Prelude.{◌≡◌, false, if◌then◌else◌, Option, Some, None, IfOk, OnOk};
 ghost use Rattle.std.specs.Map.{lookup};
 ghost use Rattle.std.specs.Option.{option_copied, option_or};
@@ -16,10 +16,10 @@ use indexmap::IndexMap;
 use std::alloc::{AllocError, Global};
 use std::marker::Model;
 
-/// Of so few topics a look at each costs less than a hash.
+/// With at most this many topics, looking at each one costs less than a hash.
 const FEW_TOPICS: usize = 4;
 
-/// The parameters of a peer, and how each topic is scored by them (gossipsub v1.1, Peer Scoring, Topic Parameters).
+/// The parameters of a peer, and how they score each topic (gossipsub v1.1, Peer Scoring, Topic Parameters).
 #[derive(Drop)]
 pub struct Rulebook {
     params: Params,
@@ -40,11 +40,11 @@ impl Model for Rulebook {
 }
 
 impl Rulebook {
-    /// How topics are scored by parameters: the first parameters of a topic count, and a topic without any has the
+    /// Returns the rulebook of these parameters. The first parameters of a topic count, and a topic without any has the
     /// defaults.
     ///
     /// # Errors
-    /// `AllocError` where there was no memory.
+    /// `AllocError` when out of memory.
     pub fn new(alloc: Global, params: &Params) -> Result<Rulebook, AllocError>
         requires { AreInRange params.now }
         ensures { IfOk result (λ rulebook. rulebook ≡ params.now) }
@@ -65,8 +65,8 @@ impl Rulebook {
         })
     }
 
-    /// How a topic is scored, with amounts in millionths and times in milliseconds. Of at most four topics it looks at
-    /// each; among more it finds one by its hash.
+    /// Returns how a topic is scored, with amounts in millionths and times in milliseconds. It looks at each topic if there
+    /// are at most four, and else finds the topic by its hash.
     pub fn of(&self, topic: &Topic) -> &TopicRules
         ensures value { result.now ≡ rules_of self.now topic.now }
         ensures in_range { RulesAreInRange result.now }
@@ -77,7 +77,7 @@ impl Rulebook {
         }
     }
 
-    /// The parameters that the rules come from.
+    /// Returns the parameters that the rules come from.
     pub fn params(&self) -> &Params
         ensures value { result.now ≡ self.now }
         ensures in_range { AreInRange self.now }
@@ -85,7 +85,7 @@ impl Rulebook {
         &self.params
     }
 
-    /// Whether what is counted on some topic may weigh. Where it may not, each topic gives 0 at each moment.
+    /// Says whether any counter may have a weight on any topic. If none may, each topic gives 0 at each moment.
     pub fn any_weighs(&self) -> bool
         ensures { result ≡ false → NothingWeighs self.now }
     {
@@ -93,10 +93,10 @@ impl Rulebook {
     }
 }
 
-/// The rules of each topic that the parameters name.
+/// Returns the rules of each topic that the parameters name.
 ///
 /// # Errors
-/// `AllocError` where there was no memory.
+/// `AllocError` when out of memory.
 fn rules_by_topic(alloc: Global, params: &Params) -> Result<IndexMap<Topic, TopicRules>, AllocError>
     ensures { IfOk result (λ rules. TellsRules params.now rules.entries (default_rules params.now)) }
 {
@@ -112,10 +112,10 @@ fn rules_by_topic(alloc: Global, params: &Params) -> Result<IndexMap<Topic, Topi
     Ok(rules)
 }
 
-/// Notes the rules of a topic, where none of it are noted.
+/// Notes the rules of a topic, unless it already has some.
 ///
 /// # Errors
-/// `AllocError` where there was no memory.
+/// `AllocError` when out of memory.
 fn note(
     rules: &mut IndexMap<Topic, TopicRules>,
     topic: &Topic,
@@ -132,7 +132,7 @@ fn note(
     Ok(())
 }
 
-/// The noted rules of a topic, if any.
+/// Returns the noted rules of a topic, if any.
 fn found<'a>(rules: &'a IndexMap<Topic, TopicRules>, topic: &Topic) -> Option<&'a TopicRules>
     ensures { option_copied result ≡ lookup (same_topic topic.now) rules.now.entries }
 {

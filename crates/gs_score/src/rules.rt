@@ -24,7 +24,8 @@ pub struct TopicRules {
 }
 
 impl TopicRules {
-    /// The factor by which a counter of this kind decays, and the floor below which it becomes 0, both in millionths.
+    /// Returns the factor by which a counter of this kind decays, and the floor below which it becomes 0, both in
+    /// millionths.
     pub fn decay_of(&self, kind: Kind) -> Decay
         requires in_range { RulesAreInRange self.now }
         ensures value { result ≡ decay_of self.now kind }
@@ -42,8 +43,8 @@ impl TopicRules {
         }
     }
 
-    /// Up to where a counter is raised, in millionths: its cap, and 10^12 for P3b and P4, which have no cap of their
-    /// own.
+    /// Returns the most to which a counter is raised, in millionths: its cap, or 10^12 for P3b and P4, which have no own
+    /// cap.
     pub fn cap_of(&self, kind: Kind) -> u64
         requires in_range { RulesAreInRange self.now }
         ensures value { result ≡ cap_of self.now kind }
@@ -57,7 +58,7 @@ impl TopicRules {
         }
     }
 
-    /// Whether one that is in the mesh since a moment has had the time that a new member has (P3).
+    /// Says whether a member has been in the mesh for the activation time (P3).
     pub(crate) fn is_active(&self, since: Option<Millis>, now: Millis) -> bool
         ensures { result ≡ is_active self.now now.0 since }
     {
@@ -67,7 +68,7 @@ impl TopicRules {
         }
     }
 
-    /// What the time in the mesh counts, in millionths (P1): 0 to 10^12.
+    /// Returns what the time in the mesh counts, in millionths (P1): 0 to 10^12.
     pub(crate) fn presence(&self, since: Option<Millis>, now: Millis) -> u64
         requires in_range { RulesAreInRange self.now }
         ensures value { result ≡ p1 self.now now.0 since }
@@ -83,7 +84,7 @@ impl TopicRules {
     }
 }
 
-/// Whether what is counted on some topic weighs, by the parameters of topics. The defaults of others weigh nothing.
+/// Says whether any counter has a weight on any of these topics. All other topics have the defaults, which weigh nothing.
 pub(crate) fn any_weighs(topics: &[(Topic, TopicParams)]) -> bool
     ensures { result ≡ false
         → (params : ParamsValue)
@@ -99,7 +100,8 @@ pub(crate) fn any_weighs(topics: &[(Topic, TopicParams)]) -> bool
     false
 }
 
-/// Whether what is counted on a topic weighs: it does not under a weight of 0, nor where each counter has such a one.
+/// Says whether any counter has a weight on a topic. None has one if the topic's weight is 0, or if the weight of each
+/// counter is 0.
 fn weighs(factors: &TopicFactors) -> bool
     ensures { result ≡ false
         → TopicFactorsAreInRange factors.now

@@ -8,11 +8,11 @@ use crate::millionths::{squared, sum_of_four, weighed, weighed_sum};
 use crate::parts::{Part, ScoreParts};
 use gs_params::Factors;
 
-/// The score of a neighbour, in millionths (gossipsub v1.1, Peer Scoring, The Score Function), by the sum of
-/// what its topics give (at most 10^29 either way), the score that the application gives it (P5, at most 10^12
-/// either way), how many neighbours are at its address (P6, at most 10^6) and its misbehaviour (P7, at most
-/// 10^12). It is at most 10^30 either way.
-// Each score takes this way: inlined, it costs as much as where nothing else calls it.
+/// Returns the score of a neighbour, in millionths (gossipsub v1.1, Peer Scoring, The Score Function). `topics` is the sum
+/// of what its topics give, at most 10^29 either way. `app` is the score that the application gives it (P5), at most 10^12
+/// either way. `number` is how many neighbours are at its address (P6), at most 10^6. `misbehaviour` (P7) is at most 10^12.
+/// The score is at most 10^30 either way.
+// Each score calls this. Inlined, it costs as much as code with only one caller.
 #[inline(always)]
 #[tactic(auto, unfolding(crate::specs::Formula::score_of))]
 pub fn score_of(factors: &Factors, topics: i128, app: i128, number: u64, misbehaviour: u64) -> i128
@@ -31,7 +31,7 @@ pub fn score_of(factors: &Factors, topics: i128, app: i128, number: u64, misbeha
     sum_of_four(held, given, crowded, misbehaved)
 }
 
-/// The parts of the score that `score_of` gives for the same, each as it is counted and weighed.
+/// Returns the parts of the score that `score_of` gives for the same arguments, each as it is counted and weighed.
 pub(crate) fn score_parts_of(
     factors: &Factors,
     topics: i128,
@@ -63,8 +63,8 @@ pub(crate) fn score_parts_of(
     }
 }
 
-/// What the score of the application weighs (P5).
-// Each score takes this way: inlined, it costs as much as where nothing else calls it.
+/// Returns what the score of the application weighs (P5).
+// Each score calls this. Inlined, it costs as much as code with only one caller.
 #[inline(always)]
 fn weighed_app(factors: &Factors, app: i128) -> i128
     requires in_range { FactorsAreInRange factors.now }
@@ -75,8 +75,8 @@ fn weighed_app(factors: &Factors, app: i128) -> i128
     weighed_sum(factors.w5, app)
 }
 
-/// What the neighbours at an address weigh (P6).
-// Each score takes this way: inlined, it costs as much as where nothing else calls it.
+/// Returns what the neighbours at an address weigh (P6).
+// Each score calls this. Inlined, it costs as much as code with only one caller.
 #[inline(always)]
 fn weighed_crowd(factors: &Factors, number: u64) -> i128
     requires in_range { FactorsAreInRange factors.now }
@@ -87,8 +87,8 @@ fn weighed_crowd(factors: &Factors, number: u64) -> i128
     weighed(factors.w6, crowd(factors.p6_threshold, number))
 }
 
-/// What misbehaviour weighs (P7).
-// Each score takes this way: inlined, it costs as much as where nothing else calls it.
+/// Returns what misbehaviour weighs (P7).
+// Each score calls this. Inlined, it costs as much as code with only one caller.
 #[inline(always)]
 fn weighed_misbehaviour(factors: &Factors, misbehaviour: u64) -> i128
     requires in_range { FactorsAreInRange factors.now }
@@ -99,7 +99,7 @@ fn weighed_misbehaviour(factors: &Factors, misbehaviour: u64) -> i128
     weighed(factors.w7, squared(misbehaviour))
 }
 
-/// The square of how many more neighbours are at an address than may be, in millionths (P6): 0 to 10^18.
+/// Returns the square of how many neighbours are at an address above the threshold, in millionths (P6): 0 to 10^18.
 fn crowd(threshold: u64, number: u64) -> u64
     requires { number ≤ 10 ^ 6 }
     ensures value { result ≡ p6 threshold number }
@@ -111,7 +111,7 @@ fn crowd(threshold: u64, number: u64) -> u64
     0
 }
 
-/// A sum over topics, at most the cap, where there is one.
+/// Returns a sum over topics, limited to the cap if there is one.
 fn capped(cap: u64, sum: i128) -> i128
     requires cap { IsCap cap }
     requires sum { unsigned_abs sum ≤ 10 ^ 29 }

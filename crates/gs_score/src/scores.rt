@@ -34,13 +34,13 @@ use indexmap::IndexMap;
 use std::alloc::{AllocError, Global};
 use std::marker::Model;
 
-/// One, in millionths: what a mark raises a counter by.
+/// One, in millionths: the amount by which a mark raises a counter.
 const ONE: u64 = 1_000_000;
 
 /// The counters and the scores of a peer's neighbours.
 ///
-/// It keeps no history, and says what one would say: the marks that were applied, when neighbours came into the
-/// mesh of a topic and left it, how often counters decayed, and who was shut out.
+/// It stores no history, but answers what a history would. That history has the marks that were applied, when neighbours
+/// entered and left meshes, how often counters decayed, and who was shut out.
 #[derive(Drop)]
 pub struct Scores {
     rulebook: Rulebook,
@@ -70,11 +70,11 @@ impl Model for Scores {
 }
 
 impl Scores {
-    /// The scores of neighbours, whose numbers ascend, before anything happened. What the application gives each
-    /// is at most 10^12 millionths either way.
+    /// Returns the scores of neighbours before anything happened. The numbers of the neighbours ascend. What the
+    /// application gives each is at most 10^12 millionths either way.
     ///
     /// # Errors
-    /// `AllocError` where there was no memory.
+    /// `AllocError` when out of memory.
     pub fn new(
         alloc: Global,
         params: &Params,
@@ -98,15 +98,16 @@ impl Scores {
         })
     }
 
-    /// Whether a neighbour of this number is one of those that `new` took, and has something on a topic, or
-    /// something on fewer than 1,024 topics.
+    /// Says whether `new` took a neighbour with this number, which has something on the topic, or something on fewer than
+    /// 1,024 topics.
     pub fn has_room(&self, peer: PeerNo, topic: &Topic) -> bool
         ensures { result ≡ has_room self.now.accounts peer topic.now }
     {
         has_room(&self.accounts, peer, topic)
     }
 
-    /// Whether a mark may be applied: it concerns a neighbour, with room for the topic.
+    /// Says whether a mark may be applied. A mark that raises a counter must be about a neighbour, with room for its topic
+    /// if it has one.
     pub fn accepts(&self, mark: &Mark) -> bool
         ensures { result ≡ accepts self.now.accounts mark.now }
     {
@@ -120,19 +121,19 @@ impl Scores {
         }
     }
 
-    /// How often counters decayed.
+    /// Returns how often counters decayed.
     pub fn decays(&self) -> u64
         ensures { result ≡ self.now.decays }
     {
         self.decays
     }
 
-    /// Raises the counter that a mark raises, if any (gossipsub v1.1, Peer Scoring): by one, or by the amount of a
-    /// deficit, up to its cap. The mark is one that is accepted. It takes memory only where the neighbour had nothing
-    /// on the topic.
+    /// Raises the counter that a mark raises, if any (gossipsub v1.1, Peer Scoring). It goes up by one, or by the amount of
+    /// a deficit, up to its cap. `accepts` must allow the mark. It takes memory only if the neighbour had nothing on the
+    /// topic.
     ///
     /// # Errors
-    /// `AllocError` where there was no memory; nothing is changed then.
+    /// `AllocError` when out of memory; nothing is changed then.
     pub fn apply(&mut self, mark: &Mark) -> Result<(), AllocError>
         requires { accepts self.old.accounts mark.now ≡ true }
         ensures agrees { OnOk result ((s : Setting) (H : History)
@@ -168,11 +169,11 @@ impl Scores {
         }
     }
 
-    /// A neighbour comes into the mesh of a topic, for which it has room. It takes memory only where the neighbour
-    /// had nothing on the topic.
+    /// Puts a neighbour into the mesh of a topic, for which it has room. It takes memory only if the neighbour had nothing
+    /// on the topic.
     ///
     /// # Errors
-    /// `AllocError` where there was no memory; nothing is changed then.
+    /// `AllocError` when out of memory; nothing is changed then.
     pub fn graft(&mut self, peer: PeerNo, topic: &Topic, now: Millis) -> Result<(), AllocError>
         requires room { has_room self.old.accounts peer topic.now ≡ true }
         ensures agrees { OnOk result ((s : Setting) (H : History)
@@ -187,8 +188,8 @@ impl Scores {
         Ok(())
     }
 
-    /// The square of what is missing of a neighbour's deliveries in the mesh of a topic, in millionths (P3): 0 to
-    /// 10^18. It is what the neighbour is charged with when it leaves the mesh (P3b), by a mark of its own.
+    /// Returns the square of a neighbour's missing deliveries in the mesh of a topic, in millionths (P3): 0 to 10^18. The
+    /// neighbour is charged with it when it leaves the mesh (P3b), by a separate mark.
     pub fn missing(&self, peer: PeerNo, topic: &Topic, now: Millis) -> u64
         ensures value { (s : Setting) (H : History)
             → Agrees s self.now H
@@ -199,8 +200,8 @@ impl Scores {
         standing_of(&self.accounts, peer, topic).missing(rules, self.decays, now)
     }
 
-    /// A neighbour leaves the mesh of a topic. Its counters stay, and it is charged with nothing: the mark with what
-    /// is missing is to be applied. It takes no memory.
+    /// Takes a neighbour out of the mesh of a topic. Its counters stay, and it is charged with nothing: the caller applies
+    /// the mark with what is missing. It takes no memory.
     pub fn prune(&mut self, peer: PeerNo, topic: &Topic)
         ensures agrees { (s : Setting) (H : History)
             → Agrees s self.old H
@@ -211,8 +212,8 @@ impl Scores {
         prune_standing(&mut self.accounts, peer, topic);
     }
 
-    /// All counters decay by a step. Only the steps are counted, so that it costs the same however many counters
-    /// there are. It is called fewer than 2^63 times.
+    /// Lets all counters decay by a step. It only counts the steps, so its cost does not depend on the number of counters.
+    /// There were fewer than 2^63 steps before.
     pub fn decay(&mut self)
         requires few { self.old.decays < 2 ^ 63 }
         ensures agrees { (s : Setting) (H : History) → Agrees s self.old H → Agrees s self.new (Decayed ∷ H) }
@@ -221,7 +222,7 @@ impl Scores {
         self.decays += 1;
     }
 
-    /// A neighbour went for good: it counts no more at its address. It takes no memory.
+    /// Stops counting a neighbour at its address, for ever. It takes no memory.
     pub fn shut_out(&mut self, peer: PeerNo)
         ensures agrees { (s : Setting) (H : History) → Agrees s self.old H → Agrees s self.new (ShutOut peer ∷ H) }
         ensures keeps { self.new ≡ record self.old { addresses = shut_out peer self.old.addresses } }
@@ -229,8 +230,8 @@ impl Scores {
         self.addresses.shut_out(peer);
     }
 
-    /// A counter of a neighbour on a topic, in millionths: 0 to 10^12. It is the value that `stored` gives, after the
-    /// decays that it lacks.
+    /// Returns a counter of a neighbour on a topic, in millionths: 0 to 10^12. It is the value that `stored` gives, after
+    /// the missing decays.
     pub fn counter(&self, peer: PeerNo, topic: &Topic, kind: Kind) -> u64
         ensures value { (s : Setting) (H : History)
             → Agrees s self.now H
@@ -244,8 +245,8 @@ impl Scores {
         standing_of(&self.accounts, peer, topic).count(kind, rules, self.decays)
     }
 
-    /// How a neighbour misbehaved, whatever the topic, in millionths: 0 to 10^12. It is the value that
-    /// `stored_misbehaviour` gives, after the decays that it lacks.
+    /// Returns the misbehaviour of a neighbour, which has no topic, in millionths: 0 to 10^12. It is the value that
+    /// `stored_misbehaviour` gives, after the missing decays.
     pub fn misbehaviour(&self, peer: PeerNo) -> u64
         ensures value { (s : Setting) (H : History) → Agrees s self.now H → result ≡ misbehaviour s.params H peer }
         ensures decays { result
@@ -256,8 +257,8 @@ impl Scores {
         misbehaviour_of(&self.accounts, peer).read(decay, self.decays)
     }
 
-    /// What is kept of a counter: a value in millionths, and the number of decays up to which it was decayed. Both
-    /// are 0 where the neighbour has nothing on the topic.
+    /// Returns what is stored for a counter: a value in millionths, and the number of decays up to which it was decayed.
+    /// Both are 0 if the neighbour has nothing on the topic.
     pub fn stored(&self, peer: PeerNo, topic: &Topic, kind: Kind) -> (u64, u64)
         ensures { result
             ≡ (
@@ -270,8 +271,8 @@ impl Scores {
             .stored()
     }
 
-    /// What is kept of how a neighbour misbehaved: a value in millionths, and the number of decays up to which it was
-    /// decayed. Both are 0 where it never misbehaved, and where no neighbour has this number.
+    /// Returns what is stored for misbehaviour: a value in millionths, and the number of decays up to which it was decayed.
+    /// Both are 0 if the neighbour never misbehaved, or if no neighbour has this number.
     pub fn stored_misbehaviour(&self, peer: PeerNo) -> (u64, u64)
         ensures { result
             ≡ (
@@ -282,7 +283,7 @@ impl Scores {
         misbehaviour_of(&self.accounts, peer).stored()
     }
 
-    /// The score of a neighbour at a moment, in millionths (gossipsub v1.1, Peer Scoring, The Score Function).
+    /// Returns the score of a neighbour at a moment, in millionths (gossipsub v1.1, Peer Scoring, The Score Function).
     pub fn score(&self, peer: PeerNo, now: Millis) -> i128
         ensures { (s : Setting) (H : History) (topics : List TopicValue)
             → Agrees s self.now H
@@ -301,7 +302,7 @@ impl Scores {
         score_of(factors, topics, app, number, misbehaviour)
     }
 
-    /// The parts of a neighbour's score at a moment, over all topics. Their score is what `score` gives.
+    /// Returns the parts of a neighbour's score at a moment, over all topics. Their score is what `score` gives.
     pub fn score_parts(&self, peer: PeerNo, now: Millis) -> ScoreParts
         ensures { (s : Setting) (H : History) (topics : List TopicValue)
             → Agrees s self.now H
@@ -315,7 +316,7 @@ impl Scores {
         score_parts_of(factors, topics, app, number, misbehaviour)
     }
 
-    /// The parts of what a topic gives a neighbour at a moment.
+    /// Returns the parts of what a topic gives a neighbour at a moment.
     pub fn topic_parts(&self, peer: PeerNo, topic: &Topic, now: Millis) -> TopicParts
         ensures { (s : Setting) (H : History)
             → Agrees s self.now H
@@ -325,10 +326,10 @@ impl Scores {
         standing_of(&self.accounts, peer, topic).parts(rules, self.decays, now)
     }
 
-    /// The topics on which something is kept of a neighbour, each once, in any order.
+    /// Returns the topics on which something is kept for a neighbour, each once, in any order.
     ///
     /// # Errors
-    /// `AllocError` where there was no memory.
+    /// `AllocError` when out of memory.
     pub fn topics(&self, alloc: Global, peer: PeerNo) -> Result<Vec<Topic>, AllocError>
         ensures each { IfOk result (λ list. (s : Setting) (H : History) (t : TopicValue)
             → Agrees s self.now H
@@ -342,7 +343,7 @@ impl Scores {
     /// Raises a counter of a neighbour on a topic.
     ///
     /// # Errors
-    /// `AllocError` where there was no memory; nothing is changed then.
+    /// `AllocError` when out of memory; nothing is changed then.
     fn raise(&mut self, peer: PeerNo, topic: &Topic, kind: Kind, by: u64) -> Result<(), AllocError>
         requires room { has_room self.old.accounts peer topic.now ≡ true }
         ensures puts { OnOk result (PutsIn self.old self.new peer topic.now
@@ -362,7 +363,7 @@ impl Scores {
         Ok(())
     }
 
-    /// A neighbour misbehaved once more.
+    /// Raises the misbehaviour of a neighbour by one.
     fn blame(&mut self, peer: PeerNo)
         requires known { has_account self.old.accounts peer ≡ true }
         ensures { BlamesIn self.old self.new peer (record {
@@ -376,7 +377,7 @@ impl Scores {
     }
 }
 
-/// Neighbours with ascending numbers are at most 65,536, as numbers have 16 bits.
+/// There are at most 65,536 neighbours with ascending numbers, since a number has 16 bits.
 fn prove_numbers_are_few(neighbours: &[Neighbour])
     requires { IsAscending (peers_of neighbours.now) }
     ensures { length neighbours.now ≤ 65_536 }

@@ -20,7 +20,7 @@ pub enum Kind {
     First,
     /// Messages that it delivered as a mesh member, first or soon after the first (P3).
     Near,
-    /// What was missing of those when it left the mesh, squared (P3b).
+    /// How many of those were missing when it left the mesh, squared (P3b).
     Deficit,
     /// Invalid messages (P4).
     Invalid,
@@ -31,18 +31,18 @@ pub enum Kind {
 pub struct Raise<'a> {
     /// The counter.
     pub kind: Kind,
-    /// In millionths.
+    /// The amount, in millionths.
     pub by: u64,
     /// How its topic is scored.
     pub rules: &'a TopicRules,
-    /// The counter is as it is after these decays.
+    /// The raise comes after this number of decays.
     pub decays: u64,
 }
 
 /// What a neighbour has on a topic: since when it is in the mesh, and its counters.
 #[derive(Clone, Copy, Debug, PartialEq, Eq)]
 pub struct Standing {
-    /// Since when it is in the mesh, where it is.
+    /// Since when it is in the mesh, if it is in it.
     pub since: Option<Millis>,
     pub first: Counter,
     pub near: Counter,
@@ -51,7 +51,7 @@ pub struct Standing {
 }
 
 impl Standing {
-    /// Nothing yet, and outside the mesh.
+    /// Returns a standing outside the mesh, with all counters 0.
     pub fn new() -> Standing
         ensures { result ≡ fresh }
     {
@@ -64,7 +64,7 @@ impl Standing {
         }
     }
 
-    /// A counter as it is kept, which may have steps of decay to come.
+    /// Returns a counter as it is stored, which may lack steps of decay.
     pub fn counter(&self, kind: Kind) -> Counter
         ensures { result ≡ stored kind self.now }
     {
@@ -76,7 +76,7 @@ impl Standing {
         }
     }
 
-    /// A counter's value after these decays, in millionths.
+    /// Returns a counter's value after these decays, in millionths.
     pub fn count(&self, kind: Kind, rules: &TopicRules, decays: u64) -> u64
         requires in_range { RulesAreInRange rules.now }
         ensures value { result ≡ count kind (held rules.now decays self.now) }
@@ -115,21 +115,22 @@ impl Standing {
         }
     }
 
-    /// It comes into the mesh at this moment, from which its time there (P1) and its activation (P3) are counted.
+    /// Puts the neighbour into the mesh at this moment. Its time in the mesh (P1) and its activation (P3) are counted from
+    /// it.
     pub fn graft(&mut self, now: Millis)
         ensures { self.new ≡ grafted now self.old }
     {
         self.since = Some(now);
     }
 
-    /// It leaves the mesh. Its counters stay.
+    /// Takes the neighbour out of the mesh. Its counters stay.
     pub fn prune(&mut self)
         ensures { self.new ≡ pruned self.old }
     {
         self.since = None;
     }
 
-    /// The square of what is missing of its deliveries in the mesh, in millionths (P3): 0 to 10^18.
+    /// Returns the square of its missing deliveries in the mesh, in millionths (P3): 0 to 10^18.
     pub fn missing(&self, rules: &TopicRules, decays: u64, now: Millis) -> u64
         requires in_range { RulesAreInRange rules.now }
         ensures value { result ≡ p3 rules.now now.0 (held rules.now decays self.now) }
@@ -143,7 +144,8 @@ impl Standing {
         0
     }
 
-    /// A counter under a weight, in millionths: at most 10^21 either way. Under a weight of 0 it is not looked at.
+    /// Returns a counter times a weight, in millionths: at most 10^21 either way. If the weight is 0, the counter is not
+    /// read.
     fn weighed_count(&self, weight: i64, kind: Kind, rules: &TopicRules, decays: u64) -> i128
         requires in_range { RulesAreInRange rules.now }
         requires weight { unsigned_abs weight ≤ 10 ^ 9 }
@@ -156,7 +158,7 @@ impl Standing {
         weighed(weight, self.count(kind, rules, decays))
     }
 
-    /// The square of a counter under a weight, in the same way.
+    /// Returns the square of a counter times a weight, in the same way.
     fn weighed_square(&self, weight: i64, kind: Kind, rules: &TopicRules, decays: u64) -> i128
         requires in_range { RulesAreInRange rules.now }
         requires weight { unsigned_abs weight ≤ 10 ^ 9 }
@@ -169,8 +171,8 @@ impl Standing {
         weighed(weight, squared(self.count(kind, rules, decays)))
     }
 
-    /// The square of what is missing under a weight, in the same way.
-    // Each score takes this way: inlined, it costs as much as where nothing else calls it.
+    /// Returns the square of what is missing times a weight, in the same way.
+    // Each score calls this. Inlined, it costs as much as code with only one caller.
     #[inline(always)]
     fn weighed_missing(&self, weight: i64, rules: &TopicRules, decays: u64, now: Millis) -> i128
         requires in_range { RulesAreInRange rules.now }
@@ -184,8 +186,8 @@ impl Standing {
         weighed(weight, self.missing(rules, decays, now))
     }
 
-    /// What the topic gives, in millionths: at most 10^25 either way.
-    // Each score takes this way: inlined, it costs as much as where nothing else calls it.
+    /// Returns what the topic gives, in millionths: at most 10^25 either way.
+    // Each score calls this. Inlined, it costs as much as code with only one caller.
     #[inline(always)]
     #[tactic(auto, unfolding(crate::specs::Formula::topic_part))]
     pub fn part(&self, rules: &TopicRules, decays: u64, now: Millis) -> i128
@@ -203,7 +205,7 @@ impl Standing {
         weighed_sum(factors.topic_weight, sum)
     }
 
-    /// The parts of what the topic gives, each as it is counted and weighed, in millionths. `topic_score` is what
+    /// Returns the parts of what the topic gives, each as it is counted and weighed, in millionths. `topic_score` is what
     /// `part` gives.
     pub fn parts(&self, rules: &TopicRules, decays: u64, now: Millis) -> TopicParts
         requires in_range { RulesAreInRange rules.now }

@@ -15,8 +15,8 @@ use indexmap::IndexMap;
 use std::alloc::{AllocError, Global};
 use std::marker::Model;
 
-/// What a neighbour has on topics, by topic. On all others it has nothing. How a topic is scored is looked up in a
-/// rulebook: no copy is kept here that would have to stay alike.
+/// What a neighbour has on each topic. On all other topics it has nothing. How a topic is scored is looked up in a
+/// rulebook, so no copy of the rules is stored here.
 #[derive(Drop)]
 pub struct TopicStandings {
     standings: IndexMap<Topic, Standing>,
@@ -33,7 +33,7 @@ impl Model for TopicStandings {
 }
 
 impl TopicStandings {
-    /// Nothing on any topic. It takes no memory.
+    /// Returns standings with nothing on any topic. It takes no memory.
     pub fn new(alloc: Global) -> TopicStandings
         ensures { result ≡ [] }
     {
@@ -42,21 +42,22 @@ impl TopicStandings {
         }
     }
 
-    /// On how many topics it has something.
+    /// Returns on how many topics the neighbour has something.
     pub fn len(&self) -> usize
         ensures { result ≡ length self.now }
     {
         self.standings.len()
     }
 
-    /// What it has on a topic: nothing, and outside the mesh, where nothing was ever counted.
+    /// Returns what the neighbour has on a topic. If it has nothing there, that is a standing outside the mesh, with all
+    /// counters 0.
     pub fn standing(&self, topic: &Topic) -> Standing
         ensures { result ≡ standing_in self.now topic.now }
     {
         standing_at(&self.standings, topic)
     }
 
-    /// Whether it has something on a topic, or something on fewer than 1,024 topics.
+    /// Says whether the neighbour has something on a topic, or something on fewer than 1,024 topics.
     pub fn has_room(&self, topic: &Topic) -> bool
         ensures { result ≡ (has_topic self.now topic.now || nat_lt (length self.now) most_topics) }
     {
@@ -64,11 +65,11 @@ impl TopicStandings {
         has_few || self.standings.get(topic).is_some()
     }
 
-    /// Raises a counter on a topic, as it is after these decays, up to its cap. It takes memory only where it had
-    /// nothing on the topic.
+    /// Raises a counter on a topic, from its value after these decays, up to its cap. It takes memory only if the neighbour
+    /// had nothing on the topic.
     ///
     /// # Errors
-    /// `AllocError` where there was no memory; nothing is changed then.
+    /// `AllocError` when out of memory; nothing is changed then.
     pub fn raise(&mut self, topic: &Topic, raise: Raise<'_>) -> Result<(), AllocError>
         requires in_range { RulesAreInRange raise.rules.now }
         ensures puts { OnOk result ((t : TopicValue)
@@ -86,10 +87,10 @@ impl TopicStandings {
         Ok(())
     }
 
-    /// It comes into the mesh of a topic. It takes memory only where it had nothing on the topic.
+    /// Puts the neighbour into the mesh of a topic. It takes memory only if the neighbour had nothing on the topic.
     ///
     /// # Errors
-    /// `AllocError` where there was no memory; nothing is changed then.
+    /// `AllocError` when out of memory; nothing is changed then.
     pub fn graft(&mut self, topic: &Topic, now: Millis) -> Result<(), AllocError>
         ensures puts { OnOk result ((t : TopicValue)
             → standing_in self.new t
@@ -106,7 +107,7 @@ impl TopicStandings {
         Ok(())
     }
 
-    /// It leaves the mesh of a topic. It takes no memory.
+    /// Takes the neighbour out of the mesh of a topic. It takes no memory.
     pub fn prune(&mut self, topic: &Topic)
         ensures prunes { (t : TopicValue)
             → standing_in self.new t
@@ -119,7 +120,7 @@ impl TopicStandings {
         prune_at(&mut self.standings, topic);
     }
 
-    /// The sum over topics of what each gives, in millionths: at most 1,024 * 10^25 either way.
+    /// Returns the sum over topics of what each gives, in millionths: at most 1,024 * 10^25 either way.
     pub fn sum(&self, rulebook: &Rulebook, decays: u64, now: Millis) -> i128
         requires few { length self.now ≤ most_topics }
         ensures value { (ts : List TopicValue)
@@ -133,10 +134,10 @@ impl TopicStandings {
         sum_of(&self.standings, rulebook, decays, now)
     }
 
-    /// The topics on which it has something, each once, in any order.
+    /// Returns the topics on which the neighbour has something, each once, in any order.
     ///
     /// # Errors
-    /// `AllocError` where there was no memory.
+    /// `AllocError` when out of memory.
     pub fn topics(&self, alloc: Global) -> Result<Vec<Topic>, AllocError>
         ensures all { IfOk result (λ list. list.items ≡ keys_of self.now) }
         ensures distinct { IfOk result (λ list. IsDistinct same_topic list.items) }
@@ -146,7 +147,7 @@ impl TopicStandings {
     }
 }
 
-/// What is kept for a topic.
+/// Returns what is kept for a topic.
 fn standing_at(standings: &IndexMap<Topic, Standing>, topic: &Topic) -> Standing
     ensures { result ≡ standing_in standings.now.entries topic.now }
 {
@@ -156,10 +157,10 @@ fn standing_at(standings: &IndexMap<Topic, Standing>, topic: &Topic) -> Standing
     }
 }
 
-/// Raises a counter in what is kept for a topic, where it lies. It takes memory only where nothing was kept.
+/// Raises a counter in what is kept for a topic, in place. It takes memory only if nothing was kept.
 ///
 /// # Errors
-/// `AllocError` where there was no memory; nothing is changed then.
+/// `AllocError` when out of memory; nothing is changed then.
 fn raise_at(
     standings: &mut IndexMap<Topic, Standing>,
     topic: &Topic,
@@ -190,10 +191,10 @@ fn raise_at(
     Ok(())
 }
 
-/// Puts what is kept for a topic into its mesh, where it lies. It takes memory only where nothing was kept.
+/// Puts what is kept for a topic into its mesh, in place. It takes memory only if nothing was kept.
 ///
 /// # Errors
-/// `AllocError` where there was no memory; nothing is changed then.
+/// `AllocError` when out of memory; nothing is changed then.
 fn graft_at(
     standings: &mut IndexMap<Topic, Standing>,
     topic: &Topic,
@@ -223,7 +224,7 @@ fn graft_at(
     Ok(())
 }
 
-/// Takes what is kept for a topic out of its mesh, where it lies. Where nothing is kept, nothing is to be.
+/// Takes what is kept for a topic out of its mesh, in place. It does nothing if nothing is kept.
 fn prune_at(standings: &mut IndexMap<Topic, Standing>, topic: &Topic)
     ensures prunes { (t : TopicValue)
         → standing_in standings.new.entries t
@@ -239,7 +240,7 @@ fn prune_at(standings: &mut IndexMap<Topic, Standing>, topic: &Topic)
     }
 }
 
-/// The sum over topics, in their order.
+/// Returns the sum over topics, in their order.
 fn sum_of(
     standings: &IndexMap<Topic, Standing>,
     rulebook: &Rulebook,
@@ -260,7 +261,7 @@ fn sum_of(
     sum
 }
 
-/// What the topic at a place gives.
+/// Returns what the topic at a place gives.
 fn part_at(
     standings: &IndexMap<Topic, Standing>,
     rulebook: &Rulebook,
@@ -282,10 +283,10 @@ fn part_at(
     }
 }
 
-/// The topics for which something is kept, in their order.
+/// Returns the topics for which something is kept, in their order.
 ///
 /// # Errors
-/// `AllocError` where there was no memory.
+/// `AllocError` when out of memory.
 fn topics_of(alloc: Global, standings: &IndexMap<Topic, Standing>) -> Result<Vec<Topic>, AllocError>
     ensures all { IfOk result (λ list. list.items ≡ keys_of standings.now.entries) }
     ensures distinct { IfOk result (λ list. IsDistinct same_topic list.items) }

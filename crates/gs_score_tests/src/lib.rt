@@ -1,4 +1,5 @@
-//! What counters and scores answer, by hand. A crate is proved once more with its own tests, so these stand apart from it.
+//! Tests of what counters and scores answer, computed by hand. The prover proves a crate again with its own tests, so these
+//! have a crate of their own.
 #![tactic(auto)]
 
 #[cfg(test)]

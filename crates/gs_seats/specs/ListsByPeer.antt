@@ -2,7 +2,7 @@
 use Rattle.std.specs.Prelude.{ℕ, zero, suc, List, [], ◌∷◌, Vec}
 use Rattle.std.specs.declared.alloc.Global.{Global}
 
--- the list at a place, and the empty one where there is no such place
+-- the list at an index, or the empty list where there is none
 abbrev pub list_at : {A : Type 0} → List (Vec A Global) → ℕ → List A
 list_at [] n = []
 list_at (list ∷ lists) zero = list.items

@@ -1,4 +1,4 @@
--- Lives of a run, by what each peer did.
+-- What a run leaves of each peer, by what the peer did.
 use Rattle.std.specs.Prelude.{◌≡◌, ◌*◌, List, []}
 use Rattle.std.specs.List.{AllZip}
 use Rattle.gs_base.specs.declared.names.PeerNo.{PeerNo}
@@ -11,8 +11,8 @@ use Rattle.gs_rules.specs.Results.{meshes_of, scores_of}
 use Rattle.gs_report.specs.declared.finished.Finished.{Finished}
 use Rattle.gs_seats.specs.Rounds.{first_words, numbers, peer_in, said_to, seat_in}
 
--- A life that was played among others: its choices are those of its peer's words, it keeps the rounds on what the others'
--- traces say to it, and its meshes and scores are those of its trace.
+-- What a run leaves of a peer, by what it did among the others. Its choices are those of its words. It keeps the rounds on
+-- what the others' traces say to it. Its meshes and scores are those of its trace.
 pub record IsPlayedLife (plan : Plan) (lives : List Finished) (p : PeerNo) (life : Finished) : Type 0 where
   pub chosen : (last : SeededState)
       × LegalOn (exact seeded_word seeded_after) (peer_in plan p) (first_words plan p) [] life.trace last
@@ -20,6 +20,6 @@ pub record IsPlayedLife (plan : Plan) (lives : List Finished) (p : PeerNo) (life
   pub meshes : life.meshes ≡ meshes_of life.trace
   pub scores : life.scores ≡ scores_of (peer_in plan p) life.trace (plan.rounds * plan.round_ms)
 
--- each peer of the plan has such a life, by number
+-- this holds for each peer of the plan, by number
 abbrev pub IsPlayedRun : Plan → List Finished → Type 0
 IsPlayedRun plan lives = AllZip (IsPlayedLife plan lives) (numbers plan) lives

@@ -8,7 +8,7 @@ use std::alloc::{AllocError, AllocFailed};
 /// Why a run gives no report.
 #[derive(Clone, Copy, Debug, PartialEq, Eq, thiserror::Error)]
 pub enum NetFault {
-    /// Out of memory: for what this peer is given, or, where there is none, for what belongs to no peer.
+    /// Out of memory for what this peer is given. Where there is no peer, the fault doesn't say for what.
     #[error("there was no memory")]
     NoMemory(Option<PeerNo>),
     /// A worker thread could not be started, or could not wait.
@@ -17,7 +17,7 @@ pub enum NetFault {
 }
 
 impl NetFault {
-    /// The number of the fault: 24 where there was no memory, 25 where a worker thread was missing.
+    /// Returns the number of the fault: 24 when out of memory, 25 where a worker thread was missing.
     pub fn number(self) -> u8
         ensures { result ≡ number_of self }
     {

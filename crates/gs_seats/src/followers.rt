@@ -17,10 +17,10 @@ use gs_router::Follower;
 use gs_rules::Trace;
 use std::alloc::{AllocError, Global};
 
-/// A reader of the trace of a peer of a plan, which has seen no entry.
+/// Returns a reader of the trace of a peer of a plan, which has read no entry.
 ///
 /// # Errors
-/// `AllocError` where there was no memory for it.
+/// `AllocError` when out of memory.
 pub fn follower_of<'a>(
     alloc: Global,
     plan: &Plan,
@@ -41,8 +41,8 @@ pub fn follower_of<'a>(
     Ok(follower)
 }
 
-/// No entry of a trace of a report is earlier than the one before it. The law is about its definitions only, and its
-/// function does nothing.
+/// No entry of a trace of a report is earlier than the one before it. The law is only about definitions, and its function
+/// does nothing.
 pub fn traces_of_a_report_are_in_order()
     ensures { (plan : PlanValue) (report : ReportValue)
         → IsReport plan report

@@ -1,5 +1,5 @@
-//! What each peer of a plan is given before a run: its neighbours, its lines, its router and its words. And what a report
-//! of a run says.
+//! What each peer of a plan is given before a run: its neighbours, its lines, its router and its words. It also defines what
+//! the report of a run says.
 #![tactic(auto)]
 
 mod fault;

@@ -10,11 +10,11 @@ use gs_base::clone_of;
 use gs_plan::{Line, Plan};
 use std::alloc::{AllocError, Global};
 
-/// The lines of a plan by the number of the peer that follows them: each with its place in the
-/// script, in file order.
+/// Returns the lines of a plan by the number of the peer that follows them. Each has its index in the script, and each list
+/// is in file order.
 ///
 /// # Errors
-/// `AllocError` where there was no memory for them.
+/// `AllocError` when out of memory.
 pub fn lines_by_peer(alloc: Global, plan: &Plan) -> Result<Vec<Vec<(usize, Line)>>, AllocError>
     requires { IsInRange plan.now }
     ensures count { IfOk result (λ lists. length lists.items ≡ length plan.now.peers) }

@@ -6,10 +6,10 @@ use gs_base::PeerNo;
 use std::alloc::{AllocError, Global};
 use std::mem;
 
-/// As many empty lists as are asked for.
+/// Returns as many empty lists as the count says.
 ///
 /// # Errors
-/// `AllocError` where there was no memory.
+/// `AllocError` when out of memory.
 pub fn empty_lists<T: Drop>(alloc: Global, count: usize) -> Result<Vec<Vec<T>>, AllocError>
     ensures count { IfOk result (λ lists. length lists.items ≡ count) }
     ensures empty { IfOk result (λ lists. (n : ℕ) → list_at lists.items n ≡ []) }
@@ -21,10 +21,10 @@ pub fn empty_lists<T: Drop>(alloc: Global, count: usize) -> Result<Vec<Vec<T>>, 
     Ok(lists)
 }
 
-/// Puts a value after the others of a peer's list.
+/// Appends a value to a peer's list.
 ///
 /// # Errors
-/// `AllocError` where there was no memory. The lists are as they were, and the value is dropped.
+/// `AllocError` when out of memory. The lists are as they were, and the value is dropped.
 pub fn put_last<T: Drop>(lists: &mut Vec<Vec<T>>, peer: PeerNo, value: T) -> Result<(), AllocError>
     requires within { peer.0 < length lists.old.items }
     ensures count { length lists.new.items ≡ length lists.old.items }
@@ -37,7 +37,7 @@ pub fn put_last<T: Drop>(lists: &mut Vec<Vec<T>>, peer: PeerNo, value: T) -> Res
     Ok(())
 }
 
-/// Takes a peer's list, and leaves an empty one there.
+/// Takes a peer's list, and leaves an empty one in its place.
 pub fn take_list<T: Drop>(alloc: Global, lists: &mut Vec<Vec<T>>, peer: PeerNo) -> Vec<T>
     requires { peer.0 < length lists.old.items }
     ensures taken { result.items ≡ list_at lists.old.items peer.0 }
@@ -48,7 +48,7 @@ pub fn take_list<T: Drop>(alloc: Global, lists: &mut Vec<Vec<T>>, peer: PeerNo) 
     mem::replace(&mut lists[usize::from(peer.0)], Vec::new(alloc))
 }
 
-/// Takes the last of a peer's list, if there is one.
+/// Takes the last element of a peer's list, if there is one.
 pub fn take_last<T: Drop>(lists: &mut Vec<Vec<T>>, peer: PeerNo) -> Option<T>
     requires within { peer.0 < length lists.old.items }
     ensures count { length lists.new.items ≡ length lists.old.items }

@@ -7,10 +7,10 @@ use gs_base::{Neighbour, PeerNo};
 use gs_plan::{App, Dial, Explicit, MOST_PEERS, Plan, are_joined};
 use std::alloc::{AllocError, Global};
 
-/// The neighbours of a peer, ascending: whom it dials, and who dials it.
+/// Returns the neighbours of a peer, ascending: those that it dials, and those that dial it.
 ///
 /// # Errors
-/// `AllocError` where there was no memory for it.
+/// `AllocError` when out of memory.
 pub fn neighbours_of(alloc: Global, plan: &Plan, peer: PeerNo) -> Result<Vec<Neighbour>, AllocError>
     requires { length plan.now.peers ≤ MOST_PEERS }
     ensures { IfOk result (λ found. found.items ≡ neighbours_in plan.now peer) }
@@ -66,7 +66,7 @@ fn address_of(alloc: Global, plan: &Plan, peer: PeerNo) -> Result<Bytes, AllocEr
     }
 }
 
-/// What the one peer's application says of the other, in millionths, and 0 where it says nothing.
+/// Returns the score that one peer's application gives the other, in millionths, and 0 where it gives none.
 fn app_of(plan: &Plan, peer: PeerNo, about: PeerNo) -> i64
     ensures { result ≡ app_of plan.now peer about }
 {
@@ -87,7 +87,7 @@ fn is_about(peer: PeerNo, about: PeerNo, app: &App) -> bool
     app.peer == peer && app.about == about
 }
 
-/// Whether the one peer has a peering agreement with the other.
+/// Says whether one peer has a peering agreement with the other.
 fn agreed(all: &[Explicit], peer: PeerNo, about: PeerNo) -> bool
     ensures { result ≡ list_any (is_agreed peer about) all.now }
 {

@@ -1,4 +1,4 @@
-//! The router of a peer before it has done anything, and the words that it chooses by.
+//! The router of a peer before it has done anything, and the random words for its choices.
 ghost use Rattle.std.specs.Prelude.{◌≡◌, IfOk};
 ghost use Rattle.gs_plan.specs.Plans.{IsInRange};
 ghost use Rattle.gs_seats.specs.Rounds.{first_words, listed_words, neighbours_in};
@@ -10,10 +10,10 @@ use gs_plan::Plan;
 use gs_router::Router;
 use std::alloc::{AllocError, Global};
 
-/// The router of a peer with these neighbours, which has done nothing.
+/// Returns the router of a peer with these neighbours, which has done nothing.
 ///
 /// # Errors
-/// `AllocError` where there was no memory for it.
+/// `AllocError` when out of memory.
 pub fn router_of(
     alloc: Global,
     plan: &Plan,
@@ -29,11 +29,10 @@ pub fn router_of(
     Ok(router)
 }
 
-/// The words that a peer's choices are made by, before the first of them: those that the plan lists, and then those of
-/// its seed.
+/// Returns the random words of a peer before it has used any: those that the plan lists, and then those of its seed.
 ///
 /// # Errors
-/// `AllocError` where there was no memory for them.
+/// `AllocError` when out of memory.
 pub fn first_words(alloc: Global, plan: &Plan, number: PeerNo) -> Result<SeededWords, AllocError>
     ensures { IfOk result (λ words. words ≡ first_words plan.now number) }
 {
@@ -41,7 +40,7 @@ pub fn first_words(alloc: Global, plan: &Plan, number: PeerNo) -> Result<SeededW
     Ok(SeededWords::new(list, plan.seed, number))
 }
 
-/// The list of a peer's random words.
+/// Returns the random words that the plan lists for a peer.
 fn listed_words(alloc: Global, plan: &Plan, peer: PeerNo) -> Result<Vec<u32>, AllocError>
     ensures { IfOk result (λ list. list.items ≡ listed_words plan.now peer) }
 {

@@ -9,7 +9,7 @@ use Rattle.gs_sheets.specs.Texts.{csv_value, json_value, table_value}
 
 -- ---- CSV
 
--- a comma before each but the first
+-- a comma before each except the first
 abbrev pub comma : ℕ → List ℕ
 comma place = if place == 0 then [] else codes ","
 
@@ -23,7 +23,7 @@ csv_row row = flat_map (λ x. comma x.0 ++ csv_value x.1) (enumerate_from 0 row)
 abbrev pub sheet_csv : Sheet → List ℕ
 sheet_csv s = csv_columns s.columns ++ flat_map csv_row s.rows
 
--- an empty line stands before each but the first
+-- an empty line stands before each except the first
 abbrev pub between : ℕ → List ℕ
 between place = if place == 0 then [] else codes "\n"
 
@@ -42,11 +42,11 @@ json_member columns x = comma x.0 ++ codes "\"" ++ column_name columns x.0 ++ co
 abbrev pub json_row : List Column → List Value → List ℕ
 json_row columns row = codes "{" ++ flat_map (json_member columns) (enumerate_from 0 row) ++ codes "}"
 
--- a line's end before each, after a comma before each but the first
+-- a line's end before each row, and a comma before that, except at the first row
 abbrev pub json_line : List Column → ℕ × List Value → List ℕ
 json_line columns x = comma x.0 ++ codes "\n" ++ json_row columns x.1
 
--- a member of an object: the list of the rows by the name of the sheet
+-- a member of an object: the name of the sheet, and the list of its rows
 abbrev pub sheet_json : ℕ × Sheet → List ℕ
 sheet_json x =
     comma x.0 ++ codes "\n\"" ++ x.1.name ++ codes "\":["

@@ -39,7 +39,7 @@ gap column = if column == 0 then [] else codes "  "
 abbrev pub to_the_left : ℕ → Bool → List ℕ → List ℕ
 to_the_left width is_last cell = if is_last then cell else cell ++ spaces (width - length cell)
 
--- and one that stands to the right
+-- a cell that stands to the right of its column
 abbrev pub to_the_right : ℕ → List ℕ → List ℕ
 to_the_right width cell = spaces (width - length cell) ++ cell
 
@@ -60,7 +60,7 @@ abbrev pub row_text : Layout → List (List ℕ) → List ℕ
 row_text layout row =
     flat_map (λ x. cell_text layout (place_in (length row) x.0) x.1) (enumerate_from 0 row) ++ codes "\n"
 
--- how a table is laid out whose first `names` columns are of names
+-- the layout of a table with names in its first `names` columns
 abbrev pub layout_of : ℕ → List (List ℕ) → List (List (List ℕ)) → Layout
 layout_of names header rows = record { widths = widths header rows; names = names }
 

@@ -18,8 +18,8 @@ share_text n = decimal (n / 100) ++ codes "." ++ digit n 10 ∷ digit n 1 ∷ []
 
 -- ---- names
 
--- A byte of a text in quotes. What is no printable ASCII, or would end the text, is given by its number, as JSON has it, in
--- CSV too.
+-- A byte of a text in quotes. A quote, a backslash and what is not printable ASCII are written as their numbers, in the form
+-- of JSON, in CSV too.
 abbrev pub escaped : ℕ → List ℕ
 escaped byte =
     if nat_lt byte 32 || (nat_lt 126 byte || (byte == 34 || byte == 92)) then codes "\\u00" ++ encode_lower (byte ∷ []) else byte ∷ []
@@ -27,7 +27,7 @@ escaped byte =
 abbrev pub quoted : List ℕ → List ℕ
 quoted name = codes "\"" ++ flat_map escaped name ++ codes "\""
 
--- A byte of a name in a table. What is no printable ASCII is given by its number, so that no name breaks a line. So is a
+-- A byte of a name in a table. What is not printable ASCII is written as its number, so that no name breaks a line. So is a
 -- backslash, so that two cells are alike only where the names are.
 abbrev pub printable : ℕ → List ℕ
 printable byte =
@@ -36,7 +36,7 @@ printable byte =
 abbrev pub plain_name : List ℕ → List ℕ
 plain_name name = flat_map printable name
 
--- a payload in a table: of one longer than 8 bytes those and two dots
+-- a payload in a table: if it is longer than 8 bytes, only the first 8, and two dots
 abbrev pub short_payload : List ℕ → List ℕ
 short_payload payload = if nat_lt 8 (length payload) then encode_lower (take 8 payload) ++ codes ".." else encode_lower payload
 

@@ -7,10 +7,11 @@ use crate::sheet::{Column, Row, Sheet, Value};
 use crate::texts::push_csv_value;
 use std::alloc::{AllocError, Global};
 
-/// Sheets as CSV: each has a header and a line for each row. An empty line stands before each but the first.
+/// Returns sheets as CSV: each has a header and a line for each row. An empty line stands before each sheet except the
+/// first.
 ///
 /// # Errors
-/// `AllocError` where there was no memory for it.
+/// `AllocError` if it runs out of memory.
 pub fn sheets_csv(alloc: Global, sheets: &[Sheet]) -> Result<Vec<u8>, AllocError>
     ensures { IfOk result (λ text. text.items ≡ sheets_csv sheets.now) }
 {

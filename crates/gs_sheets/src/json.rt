@@ -8,10 +8,11 @@ use crate::sheet::{Column, Row, Sheet, Value};
 use crate::texts::push_json_value;
 use std::alloc::{AllocError, Global};
 
-/// Sheets as one object of JSON. It has a list for each sheet, and that an object for each row, on a line of its own.
+/// Returns sheets as one JSON object. The object has a list for each sheet. Each list has an object for each row, on a line
+/// of its own.
 ///
 /// # Errors
-/// `AllocError` where there was no memory for it.
+/// `AllocError` if it runs out of memory.
 pub fn sheets_json(alloc: Global, sheets: &[Sheet]) -> Result<Vec<u8>, AllocError>
     ensures { IfOk result (λ text. text.items ≡ sheets_json sheets.now) }
 {
@@ -104,7 +105,7 @@ fn push_members(
     Ok(())
 }
 
-/// Adds the value of the column at a place, by the name of that.
+/// Adds the name of the column at a place, and the value.
 fn push_member(
     alloc: Global,
     text: &mut Vec<u8>,

@@ -3,12 +3,12 @@ ghost use Rattle.std.specs.Prelude.{◌≡◌, IfOk};
 use gs_base::Seq;
 use std::alloc::{AllocError, Global};
 
-/// What stands in a row under a column.
+/// The value of a row in one column.
 #[derive(Debug, Drop)]
 pub enum Value {
     /// A name, or another text.
     Name(Seq<u8>),
-    /// A payload, which is shown in lower-case hexadecimal digits. A table for a person shows its first 8 bytes.
+    /// A payload, which is written in lower-case hexadecimal digits. A table for a person shows its first 8 bytes.
     Payload(Seq<u8>),
     Count(u64),
     /// A whole number that may be below 0.
@@ -17,7 +17,7 @@ pub enum Value {
     Score(i128),
     /// A share in hundredths of a per cent, which is shown in per cent with two digits after the point.
     Share(u64),
-    /// There is none.
+    /// There is no value.
     Missing,
 }
 
@@ -47,10 +47,10 @@ pub struct Sheet {
     pub rows: Seq<Row>,
 }
 
-/// A text as bytes of its own.
+/// Returns a copy of a text, as bytes.
 ///
 /// # Errors
-/// `AllocError` where there was no memory for it.
+/// `AllocError` if it runs out of memory.
 pub fn bytes_of(alloc: Global, text: &[u8]) -> Result<Seq<u8>, AllocError>
     ensures { IfOk result (λ bytes. bytes ≡ text.now) }
 {

@@ -44,7 +44,7 @@ struct Place {
 /// Adds a table. The first row is its header, and the first `names` columns stand to the left.
 ///
 /// # Errors
-/// `AllocError` where there was no memory for it.
+/// `AllocError` if it runs out of memory.
 pub(crate) fn push_table(
     alloc: Global,
     text: &mut Vec<u8>,

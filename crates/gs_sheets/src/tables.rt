@@ -10,11 +10,12 @@ use crate::texts::push_table_value;
 use gs_base::Seq;
 use std::alloc::{AllocError, Global};
 
-/// Sheets as tables for a person, each under its title. An empty line stands before each but the first. Names stand to the
-/// left and numbers to the right, with two spaces or more between columns. A sheet without rows has the line `none`.
+/// Returns sheets as tables for a person, each under its title. An empty line stands before each table except the first.
+/// Names stand to the left and numbers to the right, with two spaces or more between columns. A sheet without rows has the
+/// line `none`.
 ///
 /// # Errors
-/// `AllocError` where there was no memory for it.
+/// `AllocError` if it runs out of memory.
 pub fn sheets_table(alloc: Global, sheets: &[Sheet]) -> Result<Vec<u8>, AllocError>
     ensures { IfOk result (λ text. text.items ≡ sheets_table sheets.now) }
 {

@@ -129,7 +129,7 @@ fn push_escaped_all(alloc: Global, text: &mut Vec<u8>, name: &[u8]) -> Result<()
     Ok(())
 }
 
-/// Adds a byte of a text within quotes. What is no printable ASCII, or would end the text, is given by its number.
+/// Adds a byte of a text within quotes. A quote, a backslash and what is not printable ASCII are written as their numbers.
 fn push_escaped(alloc: Global, text: &mut Vec<u8>, byte: u8) -> Result<(), AllocError>
     ensures { OnOk result (text.new.items ≡ text.old.items ++ escaped byte) }
 {
@@ -150,7 +150,7 @@ fn push_plain(alloc: Global, text: &mut Vec<u8>, name: &[u8]) -> Result<(), Allo
     Ok(())
 }
 
-/// Adds a byte of a name, and its number where it is no printable ASCII.
+/// Adds a byte of a name. A backslash and what is not printable ASCII are written as their numbers.
 fn push_printable(alloc: Global, text: &mut Vec<u8>, byte: u8) -> Result<(), AllocError>
     ensures { OnOk result (text.new.items ≡ text.old.items ++ printable byte) }
 {

@@ -14,14 +14,15 @@ use Rattle.gs_snapshots.specs.Moments.{occasion_word}
 abbrev pub csv_head : List ℕ
 csv_head = codes "round,at,peer,event,neighbour,topic,part,counted,weighed\n"
 
--- what begins each row of a neighbour at a moment
+-- what each row of a neighbour at a moment begins with
 abbrev pub row_start : Plan → Snapshot → List ℕ
 row_start plan s =
     decimal s.moment.round ++ codes "," ++ moment_text s.moment.at ++ codes ","
     ++ peer_text (names_of plan) s.moment.peer ++ codes "," ++ occasion_word s.moment.occasion ++ codes ","
     ++ peer_text (names_of plan) s.neighbour ++ codes ","
 
--- a row after such a start, with the topic or none: a part, what is counted or nothing, and what that weighs
+-- a row after such a start, with or without a topic: the name of a part, what is counted, if anything, and its weighted
+-- amount
 abbrev pub row : List ℕ → List ℕ → List ℕ → ℤ → List ℕ
 row start name counted weighed =
     start ++ codes "," ++ name ++ codes "," ++ counted ++ codes "," ++ score_text weighed ++ codes "\n"
@@ -32,7 +33,7 @@ part_row start name part = row start name (score_text part.counted) part.weighed
 abbrev pub amount_row : List ℕ → List ℕ → ℤ → List ℕ
 amount_row start name amount = row start name [] amount
 
--- the parts of a topic
+-- the rows of the parts of a topic
 abbrev pub topic_parts_rows : List ℕ → TopicParts → List ℕ
 topic_parts_rows start parts =
     part_row start (codes "time_in_mesh") parts.time_in_mesh
@@ -45,7 +46,7 @@ topic_parts_rows start parts =
 unfoldable pub topic_rows : List ℕ → OnTopic → List ℕ
 topic_rows start x = topic_parts_rows (start ++ topic_text x.topic) x.parts
 
--- what is of no topic
+-- the rows of the parts that belong to no single topic
 abbrev pub score_parts_rows : List ℕ → ScoreParts → List ℕ
 score_parts_rows start parts =
     amount_row start (codes "topic_sum") parts.topic_sum
@@ -54,7 +55,7 @@ score_parts_rows start parts =
     ++ row start (codes "ip_colocation_factor") (decimal parts.neighbours_at_address) parts.ip_colocation_factor
     ++ part_row start (codes "behaviour_penalty") parts.behaviour_penalty
 
--- the score, the parts of each topic, and those of none
+-- the rows of the score, of the parts of each topic, and of the parts that belong to no single topic
 unfoldable pub rows_from : List ℕ → Snapshot → List ℕ
 rows_from start s =
     amount_row start (codes "score") s.parts.score

@@ -1,4 +1,4 @@
--- How much of what a neighbour sent or promised came to nothing.
+-- How much of what a neighbour sent or promised had no effect.
 use Rattle.std.specs.Prelude.{ℕ, min, if◌then◌else◌, List, sum_by}
 use Rattle.gs_base.specs.declared.names.PeerNo.{PeerNo}
 use Rattle.gs_base.specs.Names.{same_peer}
@@ -12,7 +12,7 @@ use Rattle.gs_snapshots.specs.declared.falls.Falls.{Falls}
 use Rattle.gs_snapshots.specs.declared.falls.RefusedGrafts.{RefusedGrafts}
 use Rattle.gs_snapshots.specs.declared.falls.UnansweredIds.{UnansweredIds}
 
--- ---- one of them
+-- ---- one thing that had no effect
 
 abbrev pub no_grafts : RefusedGrafts
 no_grafts = record { explicit = 0; backoff = 0; score = 0; full = 0 }
@@ -44,7 +44,7 @@ falls_with (Request q id why) =
     record { graylisted = 0; late = 0; grafts = no_grafts; requests = one_request why; promises = 0 }
 falls_with (Broken p) = record { graylisted = 0; late = 0; grafts = no_grafts; requests = no_requests; promises = 1 }
 
--- who sent or promised it
+-- the neighbour that sent or promised it
 abbrev pub of_whom : Fallen → PeerNo
 of_whom (Graylisted q) = q
 of_whom (Late q) = q
@@ -52,17 +52,17 @@ of_whom (Graft q t why) = q
 of_whom (Request q id why) = q
 of_whom (Broken p) = p.from
 
--- of a neighbour
+-- the counts of one thing, if this neighbour sent or promised it
 abbrev pub falls_by : PeerNo → Fallen → Falls
 falls_by q fallen = if same_peer (of_whom fallen) q then falls_with fallen else no_falls
 
--- ---- all of them
+-- ---- everything that had no effect
 
--- the greatest number that is given
+-- the greatest number that is stated
 abbrev pub most_told : ℕ
 most_told = 18_446_744_073_709_551_615
 
--- the sum of a number of each, at most the greatest number that is given
+-- the sum of one count over everything, or the greatest number that is stated if the sum is above it
 abbrev pub total_of : (Falls → ℕ) → PeerNo → List Fallen → ℕ
 total_of number q all = min (sum_by (λ fallen. number (falls_by q fallen)) all) most_told
 
@@ -81,7 +81,7 @@ requests_of q all = record {
   not_kept = total_of (λ falls. falls.requests.not_kept) q all;
 }
 
--- how much of what a neighbour sent or promised is among all that came to nothing
+-- the counts of what a neighbour sent or promised, among everything that had no effect
 abbrev pub falls_of : PeerNo → List Fallen → Falls
 falls_of q all = record {
   graylisted = total_of (λ falls. falls.graylisted) q all;

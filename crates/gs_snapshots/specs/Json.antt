@@ -21,7 +21,7 @@ thresholds_text t =
     ++ codes ",\"publish_threshold\":" ++ score_text t.publish_threshold
     ++ codes ",\"graylist_threshold\":" ++ score_text t.graylist_threshold ++ codes "}"
 
--- the names of the peers by their numbers, how long and how many the rounds are, and the scores that neighbours need
+-- the names of the peers by their numbers, the length of a round, the last round, and the thresholds
 abbrev pub json_head : Plan → List ℕ
 json_head plan =
     codes "{\"peers\":" ++ list_text quoted (names_of plan) ++ codes ",\"round_ms\":" ++ decimal plan.round_ms
@@ -30,11 +30,11 @@ json_head plan =
 
 -- ---- a line
 
--- an amount by its name
+-- an amount after its name
 abbrev pub amount_member : List ℕ → ℤ → List ℕ
 amount_member name amount = codes ",\"" ++ name ++ codes "\":" ++ score_text amount
 
--- what is counted, and what that weighs
+-- a part: what is counted, and its weighted amount
 abbrev pub part_member : List ℕ → Part → List ℕ
 part_member name part =
     codes ",\"" ++ name ++ codes "\":{\"counted\":" ++ score_text part.counted
@@ -52,13 +52,13 @@ topic_parts_members parts =
 abbrev pub topic_object : OnTopic → List ℕ
 topic_object x = codes "{\"topic\":" ++ topic_text x.topic ++ topic_parts_members x.parts ++ codes "}"
 
--- the neighbours at the address, and what their number weighs
+-- the number of neighbours at the address, and the weighted amount of that
 abbrev pub colocation_member : ℕ → ℤ → List ℕ
 colocation_member neighbours weighed =
     codes ",\"ip_colocation_factor\":{\"neighbours\":" ++ decimal neighbours
     ++ codes ",\"weighed\":" ++ score_text weighed ++ codes "}"
 
--- what is of no topic
+-- the parts that belong to no single topic
 abbrev pub score_parts_members : ScoreParts → List ℕ
 score_parts_members parts =
     amount_member (codes "topic_sum") parts.topic_sum
@@ -67,7 +67,7 @@ score_parts_members parts =
     ++ colocation_member parts.neighbours_at_address parts.ip_colocation_factor
     ++ part_member (codes "behaviour_penalty") parts.behaviour_penalty
 
--- when, whose score it is for whom, the score, and its parts
+-- the moment, the peer that scores, the neighbour that is scored, the score, and its parts
 abbrev pub json_line : Plan → Snapshot → List ℕ
 json_line plan s =
     line_start (names_of plan) s.moment.round s.moment.at s.moment.peer ++ event_text (occasion_word s.moment.occasion)

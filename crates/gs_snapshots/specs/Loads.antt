@@ -15,7 +15,7 @@ use Rattle.gs_snapshots.specs.declared.snapshot.OnTopic.{OnTopic}
 use Rattle.gs_snapshots.specs.declared.snapshot.Snapshot.{Snapshot}
 use Rattle.gs_snapshots.specs.Lowest.{lowest}
 
--- a part of a score, the topic that it is of, if it is of one, and what it adds to the score
+-- a part of a score, its topic if it belongs to one, and what it adds to the score
 pub record Load : Type 0 where
   pub part : PartName
   pub topic : Option Topic
@@ -24,21 +24,21 @@ pub record Load : Type 0 where
 abbrev pub amount_of : Load → ℤ
 amount_of x = x.amount
 
--- as it is in memory
+-- the same for a part as it is in memory
 abbrev pub topic_in : StoredLoad → Option Topic
 topic_in x = option_copied x.topic
 
 abbrev pub load_of : StoredLoad → Load
 load_of x = record { part = x.part; topic = topic_in x; amount = x.amount }
 
--- an amount of at most 10^24 either way: no part weighs more
+-- a bound that the amount of a part of a topic does not exceed, either way
 abbrev pub most_weighed : ℤ
 most_weighed = pos 1_000_000_000_000_000_000_000_000
 
 abbrev pub limited : ℤ → ℤ
 limited z = int_max (neg_ℤ most_weighed) (int_min z most_weighed)
 
--- what a part of a topic adds, under the weight of the topic and before the cap of all topics
+-- what a part of a topic adds, with the weight of the topic and before the cap on all topics
 abbrev pub share : Params → Topic → Part → ℤ
 share params t part = times (rules_of params t).factors.topic_weight (limited part.weighed)
 
@@ -68,11 +68,11 @@ loads_of_no_topic parts =
 abbrev pub loads : Params → Snapshot → List Load
 loads params s = flat_map (loads_on_topic params) s.topics ++ loads_of_no_topic s.parts
 
--- the part that adds least
+-- the part that adds least: among equals, the first
 abbrev pub heaviest : Params → Snapshot → Option Load
 heaviest params s = lowest amount_of (loads params s)
 
--- its word, which is its key in the lines of scores
+-- the word of a part, which is its key in the lines of scores
 abbrev pub part_word : PartName → List ℕ
 part_word TimeInMesh = codes "time_in_mesh"
 part_word FirstMessageDeliveries = codes "first_message_deliveries"

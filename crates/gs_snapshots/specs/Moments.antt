@@ -1,4 +1,4 @@
--- The moments at which scores are told: a peer's heartbeats, its decays and its shutdown, after what it did then.
+-- The moments at which scores are reported: a peer's heartbeats, its decays and its shutdown, after what it did then.
 use Rattle.std.specs.Prelude.{ℕ, ◌/◌, List, [], ◌∷◌, Option, Some, None, codes, reverse}
 use Rattle.std.specs.List.{flat_map}
 use Rattle.gs_base.specs.declared.names.PeerNo.{PeerNo}
@@ -11,7 +11,7 @@ use Rattle.gs_snapshots.specs.declared.moments.Moment.{Moment}
 use Rattle.gs_snapshots.specs.declared.moments.Occasion.{Occasion}
 use Rattle.gs_snapshots.specs.declared.moments.Occasion.TheVariants as occasion
 
--- why scores are told at an event, if they are
+-- why scores are reported at an event, if they are
 abbrev pub occasion_of : Event → Option Occasion
 occasion_of (Heard q rpc) = None
 occasion_of (Late q rpc) = None
@@ -24,13 +24,13 @@ occasion_of Decay = Some occasion.Decay
 occasion_of (RoundEnd r) = None
 occasion_of Shut = Some occasion.Shutdown
 
--- its word, which is that of the event
+-- the word of an occasion, which is the word of its event
 abbrev pub occasion_word : Occasion → List ℕ
 occasion_word occasion.Heartbeat = codes "heartbeat"
 occasion_word occasion.Decay = codes "decay"
 occasion_word occasion.Shutdown = codes "shut"
 
--- the moment of an entry of a peer: its round is that of its time
+-- the moment of an entry of a peer, in the round of its time
 abbrev pub moment_of : Plan → PeerNo → Entry → Occasion → Moment
 moment_of plan p e o = record { peer = p; round = e.at.0 / plan.round_ms; at = e.at; occasion = o }
 
@@ -39,7 +39,7 @@ abbrev pub with_trace : Plan → PeerNo → Entry → Entries → Option Occasio
 with_trace plan p e L None = []
 with_trace plan p e L (Some o) = (moment_of plan p e o, e ∷ L) ∷ []
 
--- the moment of the newest entry of a trace, if scores are told then
+-- the moment of the newest entry of a trace, if scores are reported then
 abbrev pub newest_moment : Plan → PeerNo → Entries → List (Moment × Entries)
 newest_moment plan p [] = []
 newest_moment plan p (e ∷ L) = with_trace plan p e L (occasion_of e.event)

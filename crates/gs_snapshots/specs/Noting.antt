@@ -1,4 +1,4 @@
--- How a summary goes on with what is seen next.
+-- How the next thing that is seen changes a summary.
 use Rattle.std.specs.Prelude.{ℕ, ◌+◌, ℤ, pos, int_lt, min, Bool, true, if◌then◌else◌, List, [], ◌∷◌, ◌++◌, fold, map, Option, Some, None}
 use Rattle.gs_base.specs.declared.names.PeerNo.{PeerNo}
 use Rattle.gs_params.specs.declared.params.Thresholds.{Thresholds}
@@ -81,6 +81,6 @@ with_snapshot t s x = record {
 abbrev pub with_fallen : Fallen → Summary → Summary
 with_fallen fallen x = record x { falls = falls_plus x.falls (falls_by x.neighbour fallen) }
 
--- all that came to nothing at an entry
+-- the summaries after each thing that had no effect at an entry
 abbrev pub with_each : List Fallen → List Summary → List Summary
 with_each all xs = fold (λ (so_far : List Summary) (fallen : Fallen). map (with_fallen fallen) so_far) xs all

@@ -16,11 +16,11 @@ use Rattle.gs_snapshots.specs.Moments.{moments}
 use Rattle.gs_snapshots.specs.Snapshots.{snapshot_of}
 use Rattle.gs_snapshots.specs.Wishes.{Wishes, has_name, is_in_rounds}
 
--- of a neighbour at a moment, after the trace that its peer had then
+-- the text for a neighbour at a moment, after the trace that its peer had then
 abbrev pub text_about : Option Form → Plan → Moment × Entries → PeerNo → List ℕ
 text_about form plan m q = snapshot_text form plan (snapshot_of (peer_in plan m.0.peer) m q)
 
--- of each of these neighbours
+-- the text for each of these neighbours at a moment
 abbrev pub text_at : Option Form → Plan → List PeerNo → Moment × Entries → List ℕ
 text_at form plan qs m = flat_map (text_about form plan m) qs
 
@@ -31,7 +31,7 @@ is_at_wanted_round rounds m = is_in_rounds rounds m.0.round
 abbrev pub wanted_neighbours : Wishes → Plan → PeerNo → List PeerNo
 wanted_neighbours w plan p = filter (has_name w.neighbour plan) (links_of (peer_in plan p))
 
--- of a peer: at each moment of a round that is wanted, of each neighbour that is wanted
+-- the text for a peer: at each moment of a wanted round, for each wanted neighbour
 abbrev pub text_of_peer : Wishes → Plan → PeerNo × Finished → List ℕ
 text_of_peer w plan x = flat_map
     (text_at w.form plan (wanted_neighbours w plan x.0))
@@ -40,7 +40,7 @@ text_of_peer w plan x = flat_map
 abbrev pub is_wanted_peer : Wishes → Plan → PeerNo × Finished → Bool
 is_wanted_peer w plan x = has_name w.peer plan x.0
 
--- what begins the text, and then what is told of each peer that is wanted
+-- the first line, and then the text for each peer that is wanted
 abbrev pub scores_text : Wishes → Plan → Report → List ℕ
 scores_text w plan report =
     head_text w.form plan ++ flat_map (text_of_peer w plan) (filter (is_wanted_peer w plan) report.peers.items)

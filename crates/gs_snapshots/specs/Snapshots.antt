@@ -1,4 +1,4 @@
--- What a neighbour scores after a trace, part by part.
+-- The score of a neighbour after a trace, part by part.
 use Rattle.std.specs.Prelude.{ℕ, List, map}
 use Rattle.gs_base.specs.declared.names.PeerNo.{PeerNo}
 use Rattle.gs_base.specs.declared.names.Topic.{Topic}
@@ -9,12 +9,12 @@ use Rattle.gs_snapshots.specs.declared.moments.Moment.{Moment}
 use Rattle.gs_snapshots.specs.declared.snapshot.OnTopic.{OnTopic}
 use Rattle.gs_snapshots.specs.declared.snapshot.Snapshot.{Snapshot}
 
--- what a topic gives it
+-- the parts of a neighbour's score on a topic
 abbrev pub on_topic : Peer → Entries → ℕ → PeerNo → Topic → OnTopic
 on_topic p L at q t = record { topic = t; parts = parts_on_topic p L at q t }
 
--- at a moment after a trace: the parts of its score, and those of each topic on which anything is known of it, by the
--- bytes of the topic
+-- The parts of a neighbour's score at a moment after a trace. Topics are those on which anything is known about it, in the
+-- order of their bytes.
 abbrev pub snapshot_of : Peer → Moment × Entries → PeerNo → Snapshot
 snapshot_of p m q = record {
   moment = m.0;

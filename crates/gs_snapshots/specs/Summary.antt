@@ -1,4 +1,4 @@
--- What became of a neighbour over the moments of a run, in short.
+-- A summary of one neighbour over the moments of a run.
 use Rattle.std.specs.Prelude.{ℤ, pos, List}
 use Rattle.gs_base.specs.declared.names.PeerNo.{PeerNo}
 use Rattle.gs_params.specs.declared.params.Thresholds.{Thresholds}
@@ -12,7 +12,7 @@ use Rattle.gs_snapshots.specs.Lowest.{lowest}
 abbrev pub score_in : Snapshot → ℤ
 score_in s = s.parts.score
 
--- by what it scored, the oldest first, and all that came to nothing
+-- the summary of a neighbour, from its snapshots, the oldest first, and from everything that had no effect
 abbrev pub summary_of : Thresholds → PeerNo → List Snapshot → List Fallen → Summary
 summary_of t q ss all = record {
   neighbour = q;

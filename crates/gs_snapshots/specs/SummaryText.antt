@@ -24,7 +24,7 @@ use Rattle.gs_snapshots.specs.Wishes.{Wishes}
 
 -- ---- below a bound
 
--- since when, or until when
+-- the word before the start, or before the end, of a time below a bound
 abbrev pub side_word : Bool → List ℕ
 side_word true = codes ", from "
 side_word false = codes " to "
@@ -32,7 +32,7 @@ side_word false = codes " to "
 abbrev pub crossing_text : Crossing → List ℕ
 crossing_text x = side_word x.is_below ++ decimal x.at.0 ++ codes " ms"
 
--- and then to the end
+-- the score is still below the bound at the last moment
 abbrev pub open_text : Bool → List ℕ
 open_text true = codes " on"
 open_text false = []
@@ -40,7 +40,7 @@ open_text false = []
 abbrev pub times_text : Course → List ℕ
 times_text x = flat_map crossing_text x.crossings ++ open_text x.is_below
 
--- a line after its label, or none where there is nothing to say
+-- a line with a label and a text, or nothing if the text is empty
 abbrev pub line_after : List ℕ → List ℕ → List ℕ
 line_after label [] = []
 line_after label (byte ∷ text) = codes "  " ++ label ++ (byte ∷ text) ++ codes "\n"
@@ -58,7 +58,7 @@ abbrev pub topic_of_load : Option Topic → List ℕ
 topic_of_load None = []
 topic_of_load (Some t) = codes " on " ++ topic_text t
 
--- which part weighs most
+-- the part that adds least, and what it adds
 abbrev pub load_text : Option Load → List ℕ
 load_text None = []
 load_text (Some x) =
@@ -69,7 +69,7 @@ lowest_text params s =
     codes "  lowest " ++ score_text s.parts.score ++ codes ", at " ++ decimal s.moment.at.0 ++ codes " ms"
     ++ load_text (heaviest params s) ++ codes "\n"
 
--- of what is below 0
+-- the lowest score, if it is below 0
 abbrev pub lowest_if : Params → Snapshot → List ℕ
 lowest_if params s = if int_lt s.parts.score (pos 0) then lowest_text params s else []
 
@@ -77,9 +77,9 @@ abbrev pub lowest_line : Params → Option Snapshot → List ℕ
 lowest_line params None = []
 lowest_line params (Some s) = lowest_if params s
 
--- ---- what came to nothing
+-- ---- what had no effect
 
--- how often, and why
+-- how often something had no effect, and why
 pub record Count : Type 0 where
   pub number : ℕ
   pub word : List ℕ
@@ -93,17 +93,17 @@ count_text x = decimal x.number ++ codes " " ++ x.word
 abbrev pub comma_and : Count → List ℕ
 comma_and x = codes ", " ++ count_text x
 
--- what parts a text from what comes next
+-- the comma after a text, if the text is not empty
 abbrev pub comma_after : List ℕ → List ℕ
 comma_after [] = []
 comma_after (byte ∷ text) = codes ", "
 
--- with commas between them
+-- the counts with commas between them
 abbrev pub joined : List Count → List ℕ
 joined [] = []
 joined (x ∷ xs) = count_text x ++ flat_map comma_and xs
 
--- those of them that are not 0, on a line
+-- the counts that are not 0, on a line
 abbrev pub counts_line : List ℕ → List Count → List ℕ
 counts_line label xs = line_after label (joined (filter is_any xs))
 
@@ -146,7 +146,7 @@ abbrev pub summary_lines : Params → Summary → List ℕ
 summary_lines params s =
     bounds_lines params.thresholds s ++ lowest_line params s.lowest ++ falls_lines s.falls
 
--- the lines under who scores whom, or nothing where there is no line
+-- the lines below a heading that names the peer and the neighbour, or nothing if there is no line
 abbrev pub under_names : Plan → PeerNo → PeerNo → List ℕ → List ℕ
 under_names plan p q [] = []
 under_names plan p q (byte ∷ lines) =
@@ -155,18 +155,18 @@ under_names plan p q (byte ∷ lines) =
 abbrev pub summary_block : Plan → PeerNo → Summary → List ℕ
 summary_block plan p s = under_names plan p s.neighbour (summary_lines plan.params s)
 
--- of a peer: of each neighbour that is wanted
+-- the summaries of a peer, for each wanted neighbour
 abbrev pub summaries_of_peer : Wishes → Plan → PeerNo × Finished → List ℕ
 summaries_of_peer w plan x = flat_map
     (summary_block plan x.0)
     (map (summary_in w.rounds plan x.0 x.1.trace) (wanted_neighbours w plan x.0))
 
--- what is said where there is nothing else to say
+-- a text, or the line that there is nothing to report
 abbrev pub or_nothing : List ℕ → List ℕ
 or_nothing [] = codes "no neighbour scored below 0, and nothing came to nothing\n"
 or_nothing (byte ∷ text) = byte ∷ text
 
--- of each peer that is wanted
+-- the summaries of each peer that is wanted
 abbrev pub summary_text : Wishes → Plan → Report → List ℕ
 summary_text w plan report =
     or_nothing (flat_map (summaries_of_peer w plan) (filter (is_wanted_peer w plan) report.peers.items))

@@ -1,4 +1,4 @@
--- What became of a peer's neighbours by its trace.
+-- The summaries of a peer's neighbours, from the peer's trace.
 use Rattle.std.specs.Prelude.{ℕ, ◌/◌, if◌then◌else◌, List, [], ◌∷◌, filter, map, reverse, Option}
 use Rattle.std.specs.List.{flat_map}
 use Rattle.gs_base.specs.declared.names.PeerNo.{PeerNo}
@@ -20,18 +20,18 @@ use Rattle.gs_snapshots.specs.Wishes.{is_in_rounds}
 abbrev pub snapshot_at : Plan → PeerNo → PeerNo → Moment × Entries → Snapshot
 snapshot_at plan p q m = snapshot_of (peer_in plan p) m q
 
--- what a neighbour scored at the moments of rounds that are wanted, the oldest first
+-- the snapshots of a neighbour at the moments of wanted rounds, the oldest first
 abbrev pub snapshots_of : Option RoundSpan → Plan → PeerNo → Entries → PeerNo → List Snapshot
 snapshots_of rounds plan p L q =
     map (snapshot_at plan p q) (filter (is_at_wanted_round rounds) (moments plan p L))
 
--- what came to nothing at the newest entry of a trace, if that is in a round that is wanted
+-- what had no effect at the newest entry of a trace, if its round is wanted
 abbrev pub newest_fallen : Option RoundSpan → Plan → PeerNo → Entries → List Fallen
 newest_fallen rounds plan p [] = []
 newest_fallen rounds plan p (e ∷ L) =
     if is_in_rounds rounds (e.at.0 / plan.round_ms) then fell_away (peer_in plan p) L e.at e.event else []
 
--- at each entry, the oldest first
+-- what had no effect at each entry, the oldest first
 abbrev pub all_fallen : Option RoundSpan → Plan → PeerNo → Entries → List Fallen
 all_fallen rounds plan p L = flat_map (newest_fallen rounds plan p) (reverse (traces_so_far L))
 

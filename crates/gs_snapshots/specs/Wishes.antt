@@ -1,4 +1,4 @@
--- Which scores are wanted.
+-- Which scores are reported, and how.
 use Rattle.std.specs.Prelude.{ℕ, Bool, List, Option, Some, None}
 use Rattle.gs_base.specs.declared.names.PeerNo.{PeerNo}
 use Rattle.gs_plan.specs.declared.plan.Plan.{Plan}
@@ -9,11 +9,11 @@ use Rattle.gs_trace.specs.Wanted.{lies_in, spelled, suits}
 use Rattle.gs_snapshots.specs.declared.wanted.Form.{Form}
 use Rattle.gs_snapshots.specs.declared.wanted.Wanted.{Wanted}
 
--- What is wished for. Where a part is None, there is no such wish.
+-- What the options ask for. A part is None if its option is absent.
 pub record Wishes : Type 0 where
-  -- the scores that the peer of this name gives
+  -- only scores that the peer with this name gives
   pub peer : Option (List ℕ)
-  -- those that the neighbour of this name gets
+  -- only scores that the neighbour with this name gets
   pub neighbour : Option (List ℕ)
   pub rounds : Option RoundSpan
   pub form : Option Form
@@ -25,10 +25,10 @@ wishes_of w =
 abbrev pub no_wish : Wishes
 no_wish = record { peer = None; neighbour = None; rounds = None; form = None }
 
--- the name that is wished for, if any, is that of this number
+-- the name that an option asks for, if any, belongs to the peer with this number
 abbrev pub has_name : Option (List ℕ) → Plan → PeerNo → Bool
 has_name wish plan q = suits (same_bytes (name_of plan q)) wish
 
--- it is one of the rounds that are wished for
+-- the round is among those that an option asks for, if any
 abbrev pub is_in_rounds : Option RoundSpan → ℕ → Bool
 is_in_rounds rounds r = suits (lies_in r) rounds

@@ -1,4 +1,4 @@
-//! How a score lay to a bound over a run.
+//! When a score was below a bound, over a run.
 ghost use Rattle.std.specs.Prelude.{◌≡◌, [], ℤ, OnOk};
 ghost use Rattle.gs_snapshots.specs.Courses.{course_of, is_below};
 ghost use Rattle.gs_snapshots.specs.Noting.{course_with};
@@ -7,26 +7,26 @@ use crate::snapshot::Snapshot;
 use gs_base::{Millis, Seq};
 use std::alloc::{AllocError, Global};
 
-/// A moment at which a score came to lie on the other side of a bound.
+/// A moment at which a score crossed a bound.
 #[derive(Clone, Copy, Debug, PartialEq, Eq)]
 pub struct Crossing {
     /// When, in milliseconds from the start of the run.
     pub at: Millis,
-    /// Whether the score lies below the bound since then.
+    /// Whether the score is below the bound from then on.
     pub is_below: bool,
 }
 
-/// How a score lay to a bound. Before the first moment it is taken not to lie below it.
+/// When a score was below a bound. Before the first moment, the score counts as not below the bound.
 #[derive(Debug, Drop)]
 pub struct Course {
-    /// Whether it lies below the bound at the last moment.
+    /// Whether the score is below the bound at the last moment.
     pub is_below: bool,
-    /// When it came to lie on the other side, the first time first.
+    /// The moments at which the score crossed the bound, the earliest first.
     pub crossings: Seq<Crossing>,
 }
 
 impl Course {
-    /// The course of no moment at all.
+    /// Returns the course of no moment at all.
     pub(crate) fn new(alloc: Global) -> Course
         ensures { (bound : ℤ) → result ≡ course_of bound [] }
     {
@@ -52,7 +52,7 @@ impl Course {
     }
 }
 
-/// Whether a score lies below a bound.
+/// Says whether a score is below a bound.
 fn is_below(bound: &i64, snapshot: &Snapshot) -> bool
     ensures { result ≡ is_below bound.now snapshot.now }
 {

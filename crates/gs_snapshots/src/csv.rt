@@ -1,4 +1,4 @@
-//! What a neighbour scores as rows of CSV.
+//! Writes the score of a neighbour as rows of CSV.
 ghost use Rattle.std.specs.Prelude.{◌≡◌, ◌++◌, IfOk, OnOk, codes, decimal};
 ghost use Rattle.std.specs.List.{flat_map};
 ghost use Rattle.gs_trace.specs.Texts.{topic_text};
@@ -14,7 +14,7 @@ use gs_score::{Part, ScoreParts, TopicParts};
 use gs_trace::{push_code, push_number, push_peer, push_quoted};
 use std::alloc::{AllocError, Global};
 
-/// Adds the rows of a snapshot.
+/// Appends the rows of a snapshot.
 pub(crate) fn push_rows(
     plan: &Plan,
     out: &mut Vec<u8>,
@@ -26,7 +26,7 @@ pub(crate) fn push_rows(
     push_rows_from(out, &start, snapshot)
 }
 
-/// Adds the rows of a snapshot, each after this start.
+/// Appends the rows of a snapshot, each after this start.
 fn push_rows_from(out: &mut Vec<u8>, start: &[u8], snapshot: &Snapshot) -> Result<(), AllocError>
     ensures { OnOk result (out.new.items ≡ out.old.items ++ rows_from start.now snapshot.now) }
 {
@@ -35,14 +35,14 @@ fn push_rows_from(out: &mut Vec<u8>, start: &[u8], snapshot: &Snapshot) -> Resul
     push_score_parts(out, start, &snapshot.parts)
 }
 
-/// Adds the rows of the topics of a snapshot.
+/// Appends the rows of the topics of a snapshot.
 fn push_each_topic(out: &mut Vec<u8>, start: &[u8], snapshot: &Snapshot) -> Result<(), AllocError>
     ensures { OnOk result (out.new.items ≡ out.old.items ++ flat_map (topic_rows start.now) snapshot.now.topics) }
 {
     push_topics(out, start, snapshot.topics.as_slice())
 }
 
-/// What begins each row of a snapshot.
+/// Returns what each row of a snapshot begins with.
 fn row_start(alloc: Global, plan: &Plan, snapshot: &Snapshot) -> Result<Vec<u8>, AllocError>
     ensures { IfOk result (λ start. start.items ≡ row_start plan.now snapshot.now) }
 {
@@ -51,7 +51,7 @@ fn row_start(alloc: Global, plan: &Plan, snapshot: &Snapshot) -> Result<Vec<u8>,
     Ok(start)
 }
 
-/// Adds what begins each row of a snapshot.
+/// Appends what each row of a snapshot begins with.
 fn push_row_start(plan: &Plan, out: &mut Vec<u8>, snapshot: &Snapshot) -> Result<(), AllocError>
     ensures { OnOk result (out.new.items ≡ out.old.items ++ row_start plan.now snapshot.now) }
 {
@@ -67,14 +67,14 @@ fn push_row_start(plan: &Plan, out: &mut Vec<u8>, snapshot: &Snapshot) -> Result
     push_code(out, b",")
 }
 
-/// Adds what happened.
+/// Appends what happened at a moment.
 fn push_occasion(out: &mut Vec<u8>, moment: Moment) -> Result<(), AllocError>
     ensures { OnOk result (out.new.items ≡ out.old.items ++ occasion_word moment.occasion) }
 {
     push_code(out, occasion_word(moment.occasion))
 }
 
-/// Adds the rows of each topic.
+/// Appends the rows of each topic.
 fn push_topics(out: &mut Vec<u8>, start: &[u8], topics: &[OnTopic]) -> Result<(), AllocError>
     ensures { OnOk result (out.new.items ≡ out.old.items ++ flat_map (topic_rows start.now) topics.now) }
 {
@@ -84,7 +84,7 @@ fn push_topics(out: &mut Vec<u8>, start: &[u8], topics: &[OnTopic]) -> Result<()
     Ok(())
 }
 
-/// Adds the rows of a topic.
+/// Appends the rows of a topic.
 #[tactic(auto, unfolding(crate::specs::Csv::topic_rows))]
 fn push_topic(out: &mut Vec<u8>, start: &[u8], told: &OnTopic) -> Result<(), AllocError>
     ensures { OnOk result (out.new.items ≡ out.old.items ++ topic_rows start.now told.now) }
@@ -93,7 +93,7 @@ fn push_topic(out: &mut Vec<u8>, start: &[u8], told: &OnTopic) -> Result<(), All
     push_topic_parts(out, &on_topic, &told.parts)
 }
 
-/// What begins each row of a topic.
+/// Returns what each row of a topic begins with.
 fn topic_start(alloc: Global, start: &[u8], topic: &Topic) -> Result<Vec<u8>, AllocError>
     ensures { IfOk result (λ longer. longer.items ≡ start.now ++ topic_text topic.now) }
 {
@@ -133,7 +133,7 @@ fn push_topic_parts(out: &mut Vec<u8>, start: &[u8], parts: &TopicParts) -> Resu
     push_amount_row(out, start, b"topic_score", &parts.topic_score)
 }
 
-/// Adds the rows of what is of no topic.
+/// Appends the rows of the parts that belong to no single topic.
 fn push_score_parts(out: &mut Vec<u8>, start: &[u8], parts: &ScoreParts) -> Result<(), AllocError>
     ensures { OnOk result (out.new.items ≡ out.old.items ++ score_parts_rows start.now parts.now) }
 {
@@ -149,7 +149,7 @@ fn push_score_parts(out: &mut Vec<u8>, start: &[u8], parts: &ScoreParts) -> Resu
     push_part_row(out, start, b"behaviour_penalty", &parts.behaviour_penalty)
 }
 
-/// Adds the row of a part: what is counted, and what that weighs.
+/// Appends the row of a part: what is counted, and its weighted amount.
 fn push_part_row(
     out: &mut Vec<u8>,
     start: &[u8],
@@ -163,7 +163,7 @@ fn push_part_row(
     push_row(out, start, name, &counted, &part.weighed)
 }
 
-/// Adds the row of how many neighbours are at the address, and what that weighs.
+/// Appends the row for how many neighbours are at the address, and the weighted amount of that.
 fn push_colocation_row(
     out: &mut Vec<u8>,
     start: &[u8],
@@ -183,7 +183,7 @@ fn push_colocation_row(
     )
 }
 
-/// Adds the row of an amount, of which nothing is counted.
+/// Appends the row of an amount. Nothing is counted for it.
 fn push_amount_row(
     out: &mut Vec<u8>,
     start: &[u8],
@@ -195,7 +195,7 @@ fn push_amount_row(
     push_row(out, start, name, b"", amount)
 }
 
-/// Adds a row after its start.
+/// Appends a row that begins with this start.
 fn push_row(
     out: &mut Vec<u8>,
     start: &[u8],

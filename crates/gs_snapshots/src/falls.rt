@@ -1,4 +1,4 @@
-//! How much of what a neighbour sent or promised came to nothing.
+//! How much of what a neighbour sent or promised had no effect.
 ghost use Rattle.std.specs.Prelude.{◌≡◌};
 ghost use Rattle.gs_snapshots.specs.Falls.{falls_by, falls_with, no_falls, no_grafts, no_requests, of_whom, one_graft, one_request};
 ghost use Rattle.gs_snapshots.specs.Noting.{falls_plus, grafts_plus, requests_plus};
@@ -6,7 +6,7 @@ ghost use Rattle.gs_snapshots.specs.Noting.{falls_plus, grafts_plus, requests_pl
 use gs_base::PeerNo;
 use gs_rules::{Fallen, GraftRefusal, NoAnswer};
 
-/// How many GRAFTs of a neighbour were refused, by the reason.
+/// How many GRAFTs of a neighbour were refused, by reason.
 #[derive(Clone, Copy, Debug, PartialEq, Eq)]
 pub struct RefusedGrafts {
     /// The neighbour is explicit.
@@ -19,29 +19,29 @@ pub struct RefusedGrafts {
     pub full: u64,
 }
 
-/// How many identifiers that a neighbour asked for were not answered, by the reason.
+/// How many identifiers that a neighbour requested were not answered, by reason.
 #[derive(Clone, Copy, Debug, PartialEq, Eq)]
 pub struct UnansweredIds {
     /// The neighbour scored below `gossip_threshold`.
     pub score: u64,
-    /// The neighbour had the message as often as it may.
+    /// The neighbour had already received the message as often as it may.
     pub too_often: u64,
     /// No such message was kept.
     pub not_kept: u64,
 }
 
-/// How much of what a neighbour sent or promised came to nothing. A number that no `u64` holds is given as the greatest.
+/// How much of what a neighbour sent or promised had no effect. Each number is at most `u64::MAX`, even if more is counted.
 #[derive(Clone, Copy, Debug, PartialEq, Eq)]
 pub struct Falls {
-    /// RPCs that were not heard, since the neighbour was on the graylist.
+    /// RPCs that were not heard, because the neighbour was graylisted.
     pub graylisted: u64,
-    /// RPCs that came after the neighbour was lost.
+    /// RPCs that arrived after the neighbour was lost.
     pub late: u64,
     /// GRAFTs that were refused.
     pub grafts: RefusedGrafts,
-    /// Identifiers that it asked for and that were not answered.
+    /// Identifiers that the neighbour requested and that were not answered.
     pub requests: UnansweredIds,
-    /// Promises that it broke.
+    /// Promises that the neighbour broke.
     pub promises: u64,
 }
 
@@ -66,7 +66,7 @@ fn no_requests() -> UnansweredIds
     }
 }
 
-/// A GRAFT that was refused for this reason.
+/// Returns the counts of one GRAFT that was refused for this reason.
 fn one_graft(why: GraftRefusal) -> RefusedGrafts
     ensures { result ≡ one_graft why }
 {
@@ -80,7 +80,7 @@ fn one_graft(why: GraftRefusal) -> RefusedGrafts
     grafts
 }
 
-/// An identifier that was not answered for this reason.
+/// Returns the counts of one identifier that was not answered for this reason.
 fn one_request(why: NoAnswer) -> UnansweredIds
     ensures { result ≡ one_request why }
 {
@@ -119,7 +119,7 @@ impl UnansweredIds {
 }
 
 impl Falls {
-    /// Nothing came to nothing.
+    /// Returns the counts for nothing at all: each is 0.
     pub(crate) fn none() -> Falls
         ensures { result ≡ no_falls }
     {
@@ -132,7 +132,7 @@ impl Falls {
         }
     }
 
-    /// One thing of some neighbour that came to nothing.
+    /// Returns the counts of one thing that had no effect, whichever neighbour sent or promised it.
     fn with(fallen: &Fallen) -> Falls
         ensures { result ≡ falls_with fallen.now }
     {
@@ -147,7 +147,7 @@ impl Falls {
         falls
     }
 
-    /// What came to nothing of a neighbour, which it is or not.
+    /// Returns the counts of one thing that had no effect, if this neighbour sent or promised it. Else each count is 0.
     pub(crate) fn by(neighbour: PeerNo, fallen: &Fallen) -> Falls
         ensures { result ≡ falls_by neighbour fallen.now }
     {
@@ -170,7 +170,7 @@ impl Falls {
     }
 }
 
-/// The neighbour that sent or promised it.
+/// Returns the neighbour that sent or promised it.
 fn of_whom(fallen: &Fallen) -> PeerNo
     ensures { result ≡ of_whom fallen.now }
 {

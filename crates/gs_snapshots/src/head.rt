@@ -1,4 +1,4 @@
-//! What begins the text of scores.
+//! Writes the first line of the text of scores.
 ghost use Rattle.std.specs.Prelude.{◌≡◌, ◌++◌, OnOk};
 ghost use Rattle.gs_snapshots.specs.Csv.{csv_head};
 ghost use Rattle.gs_snapshots.specs.Json.{json_head, thresholds_text};
@@ -11,7 +11,7 @@ use gs_plan::Plan;
 use gs_trace::{push_code, push_names, push_number};
 use std::alloc::AllocError;
 
-/// Adds what begins the text in a form.
+/// Appends the first line of the text in a form.
 pub(crate) fn push_head(
     plan: &Plan,
     form: Option<Form>,
@@ -26,7 +26,7 @@ pub(crate) fn push_head(
     }
 }
 
-/// Adds the names of the columns.
+/// Appends the names of the columns.
 fn push_csv_head(out: &mut Vec<u8>) -> Result<(), AllocError>
     ensures { OnOk result (out.new.items ≡ out.old.items ++ csv_head) }
 {
@@ -36,7 +36,7 @@ fn push_csv_head(out: &mut Vec<u8>) -> Result<(), AllocError>
     )
 }
 
-/// Adds the first line: who the peers are, how long and how many the rounds are, and the thresholds.
+/// Appends the first line: the names of the peers, the length of a round, the last round, and the thresholds.
 fn push_json_head(plan: &Plan, out: &mut Vec<u8>) -> Result<(), AllocError>
     ensures { OnOk result (out.new.items ≡ out.old.items ++ json_head plan.now) }
 {
@@ -51,7 +51,7 @@ fn push_json_head(plan: &Plan, out: &mut Vec<u8>) -> Result<(), AllocError>
     push_code(out, b"}\n")
 }
 
-/// Adds the scores that neighbours need.
+/// Appends the thresholds: the scores that neighbours need.
 fn push_thresholds(out: &mut Vec<u8>, thresholds: &Thresholds) -> Result<(), AllocError>
     ensures { OnOk result (out.new.items ≡ out.old.items ++ thresholds_text thresholds.now) }
 {

@@ -1,4 +1,4 @@
-//! What a neighbour scores as a line of JSON.
+//! Writes the score of a neighbour as a line of JSON.
 ghost use Rattle.std.specs.Prelude.{◌≡◌, ◌++◌, OnOk};
 ghost use Rattle.gs_trace.specs.Events.{event_text};
 ghost use Rattle.gs_trace.specs.Lines.{line_start};
@@ -14,7 +14,7 @@ use gs_score::{Part, ScoreParts, TopicParts};
 use gs_trace::{Shown, push_code, push_list, push_number, push_peer, push_word};
 use std::alloc::AllocError;
 
-/// Adds the line of a snapshot.
+/// Appends the line of a snapshot.
 pub(crate) fn push_line(
     plan: &Plan,
     out: &mut Vec<u8>,
@@ -33,7 +33,7 @@ pub(crate) fn push_line(
     push_code(out, b"}\n")
 }
 
-/// Adds what begins the line.
+/// Appends the start of the line.
 fn push_moment(plan: &Plan, out: &mut Vec<u8>, moment: Moment) -> Result<(), AllocError>
     ensures { OnOk result (out.new.items
         ≡ out.old.items ++ line_start (names_of plan.now) moment.round moment.at moment.peer) }
@@ -47,7 +47,7 @@ fn push_moment(plan: &Plan, out: &mut Vec<u8>, moment: Moment) -> Result<(), All
     push_code(out, b",")
 }
 
-/// Adds what happened.
+/// Appends what happened at a moment.
 fn push_occasion(out: &mut Vec<u8>, moment: Moment) -> Result<(), AllocError>
     ensures { OnOk result (out.new.items ≡ out.old.items ++ event_text (occasion_word moment.occasion)) }
 {
@@ -94,7 +94,7 @@ fn push_topic_parts(out: &mut Vec<u8>, parts: &TopicParts) -> Result<(), AllocEr
     push_amount(out, b"topic_score", &parts.topic_score)
 }
 
-/// Adds what is of no topic.
+/// Appends the parts that belong to no single topic.
 fn push_score_parts(out: &mut Vec<u8>, parts: &ScoreParts) -> Result<(), AllocError>
     ensures { OnOk result (out.new.items ≡ out.old.items ++ score_parts_members parts.now) }
 {
@@ -109,7 +109,7 @@ fn push_score_parts(out: &mut Vec<u8>, parts: &ScoreParts) -> Result<(), AllocEr
     push_part(out, b"behaviour_penalty", &parts.behaviour_penalty)
 }
 
-/// Adds how many neighbours are at the address, and what that weighs.
+/// Appends how many neighbours are at the address, and the weighted amount of that.
 fn push_colocation(out: &mut Vec<u8>, neighbours: u64, weighed: &i128) -> Result<(), AllocError>
     ensures { OnOk result (out.new.items ≡ out.old.items ++ colocation_member neighbours weighed.now) }
 {
@@ -120,7 +120,7 @@ fn push_colocation(out: &mut Vec<u8>, neighbours: u64, weighed: &i128) -> Result
     push_code(out, b"}")
 }
 
-/// Adds an amount by its name.
+/// Appends an amount, after its name.
 fn push_amount(out: &mut Vec<u8>, name: &[u8], amount: &i128) -> Result<(), AllocError>
     ensures { OnOk result (out.new.items ≡ out.old.items ++ amount_member name.now amount.now) }
 {
@@ -130,7 +130,7 @@ fn push_amount(out: &mut Vec<u8>, name: &[u8], amount: &i128) -> Result<(), Allo
     push_shown(out, amount)
 }
 
-/// Adds what is counted, and what that weighs.
+/// Appends a part: what is counted, and its weighted amount.
 fn push_part(out: &mut Vec<u8>, name: &[u8], part: &Part) -> Result<(), AllocError>
     ensures { OnOk result (out.new.items ≡ out.old.items ++ part_member name.now part.now) }
 {

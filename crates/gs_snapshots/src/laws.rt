@@ -1,4 +1,4 @@
-//! What snapshots of scores and their summaries promise. Each law holds of definitions only, and its function does nothing.
+//! Laws about snapshots of scores and their summaries. Each law is about definitions only, and its function does nothing.
 ghost use Rattle.std.specs.Prelude.{◌≡◌, [], int_lt, false, map, List, None, Some};
 ghost use Rattle.gs_base.specs.declared.names.PeerNo.{PeerNo as PeerNoValue};
 ghost use Rattle.gs_score.specs.Accounts.{total};
@@ -15,8 +15,8 @@ ghost use Rattle.gs_snapshots.specs.Loads.{Load, amount_of, heaviest, loads};
 ghost use Rattle.gs_snapshots.specs.Lowest.{lowest};
 ghost use Rattle.gs_snapshots.specs.Summary.{score_in};
 
-/// The topics of a snapshot add up to its sum over topics. And its score is the one that decides what the neighbour gets at
-/// that moment, after that trace.
+/// The scores of a snapshot's topics add up to its sum over topics. The score of a snapshot is the one that the rules use
+/// at that moment, after that trace.
 pub fn a_snapshot_adds_up()
     ensures sum { (p : Peer) (m : MomentValue × Entries) (q : PeerNoValue)
         → (snapshot_of p m q).parts.topic_sum
@@ -25,8 +25,8 @@ pub fn a_snapshot_adds_up()
         → (snapshot_of p m q).parts.score ≡ score p m.1 m.0.at.0 q }
 {}
 
-/// Nothing is below the lowest: no score of a list of snapshots, and no part of a score. Only a list of nothing has no
-/// lowest.
+/// No score in a list of snapshots is below the lowest score, and no part of a score is below the part that adds least.
+/// Only an empty list has no lowest score.
 pub fn nothing_is_below_the_lowest()
     ensures scores { (ss : List SnapshotValue) (s : SnapshotValue)
         → lowest score_in ss ≡ Some s

@@ -1,5 +1,6 @@
 //! The scores of a run over time, part by part: what each peer's neighbours score at its heartbeats, at its decays and at
-//! its shutdown. A summary says of each neighbour when it scored too little, and how much of what it sent came to nothing.
+//! its shutdown. For each neighbour, a summary states when it scored too little. It also states how much of what the
+//! neighbour sent had no effect.
 #![tactic(auto)]
 
 mod amounts;

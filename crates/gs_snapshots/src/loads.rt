@@ -1,4 +1,4 @@
-//! Which part of a score weighs most.
+//! Finds the part that adds least to a score.
 ghost use Rattle.std.specs.Prelude.{◌≡◌, ◌≤◌, ◌^◌, ◌∷◌, [], ℤ, Some, option_map, unsigned_abs};
 ghost use Rattle.gs_params.specs.Params.{IsReward};
 ghost use Rattle.gs_snapshots.specs.Loads.{amount_of, heaviest, limited, load_of, loads_of_no_topic, loads_on_topic, part_word, share};
@@ -32,15 +32,16 @@ pub enum PartName {
 /// What a part adds to a score, in millionths.
 #[derive(Clone, Copy, Debug, Drop)]
 pub(crate) struct Load<'a> {
-    /// Which part it is.
+    /// The part.
     pub part: PartName,
-    /// Of which topic, if it is of one.
+    /// The topic, if the part belongs to one.
     pub topic: Option<&'a Topic>,
-    /// What it adds, under the weight of its topic, before the cap of all topics.
+    /// What the part adds, with the weight of its topic and before the cap on all topics.
     pub amount: i128,
 }
 
-/// The part that adds least to the score of a snapshot, and the first of those in the order of lines.
+/// Returns the part that adds least to the score of a snapshot. Among equals, it is the first in the order of the lines of
+/// scores.
 pub(crate) fn heaviest<'a>(rules: &Rulebook, snapshot: &'a Snapshot) -> Option<Load<'a>>
     ensures { option_map load_of result ≡ heaviest rules.now snapshot.now }
 {
@@ -51,7 +52,7 @@ pub(crate) fn heaviest<'a>(rules: &Rulebook, snapshot: &'a Snapshot) -> Option<L
     heavier_of_no_topic(found, &snapshot.parts)
 }
 
-/// The heaviest so far, or else of these: the five parts of a topic.
+/// Returns the part that adds least, among the one found so far and the five parts of a topic.
 fn heavier_on_topic<'a>(
     rules: &Rulebook,
     found: Option<Load<'a>>,
@@ -103,7 +104,7 @@ fn heavier_on_topic<'a>(
     )
 }
 
-/// The heaviest so far, or else of these: the three parts that are of no topic.
+/// Returns the part that adds least, among the one found so far and the three parts that belong to no single topic.
 fn heavier_of_no_topic<'a>(found: Option<Load<'a>>, parts: &ScoreParts) -> Option<Load<'a>>
     ensures { option_map load_of result
         ≡ lower_of_all amount_of (option_map load_of found.entry) (loads_of_no_topic parts.now) }
@@ -125,7 +126,7 @@ fn heavier_of_no_topic<'a>(found: Option<Load<'a>>, parts: &ScoreParts) -> Optio
     )
 }
 
-/// The one that was found, or the next one, if that adds less.
+/// Returns the part that was found, or the next one if that adds less.
 fn heavier<'a>(found: Option<Load<'a>>, next: Load<'a>) -> Option<Load<'a>>
     ensures { option_map load_of result
         ≡ lower amount_of (option_map load_of found.entry) (load_of next.entry) }
@@ -141,7 +142,7 @@ fn heavier<'a>(found: Option<Load<'a>>, next: Load<'a>) -> Option<Load<'a>>
     }
 }
 
-/// A part that is of no topic.
+/// Returns a part that belongs to no single topic.
 fn plain_load<'a>(part: PartName, amount: &i128) -> Load<'a>
     ensures { load_of result ≡ record { part = part; topic = None; amount = amount.now } }
 {
@@ -152,7 +153,7 @@ fn plain_load<'a>(part: PartName, amount: &i128) -> Load<'a>
     }
 }
 
-/// A part of a topic, under its weight.
+/// Returns a part of a topic, with the weight of the topic.
 fn topic_load<'a>(rules: &Rulebook, told: &'a OnTopic, name: PartName, part: &Part) -> Load<'a>
     ensures { load_of result
         ≡ record { part = name; topic = Some told.now.topic; amount = share rules.now told.now.topic part.now } }
@@ -164,14 +165,14 @@ fn topic_load<'a>(rules: &Rulebook, told: &'a OnTopic, name: PartName, part: &Pa
     }
 }
 
-/// What a part of a topic adds to a score.
+/// Returns what a part of a topic adds to a score.
 fn share(rules: &Rulebook, topic: &Topic, part: &Part) -> i128
     ensures { result ≡ share rules.now topic.now part.now }
 {
     times(rules.of(topic).factors.topic_weight, limited(&part.weighed))
 }
 
-/// An amount of at most 10^24 either way.
+/// Returns an amount, limited to the range from -10^24 to 10^24.
 fn limited(amount: &i128) -> i128
     ensures value { result ≡ limited amount.now }
     ensures bound { unsigned_abs result ≤ 10 ^ 24 }
@@ -179,10 +180,10 @@ fn limited(amount: &i128) -> i128
     (*amount).clamp(-MOST_WEIGHED, MOST_WEIGHED)
 }
 
-/// More than any part of a topic weighs.
+/// A bound above the amount of any part of a topic.
 const MOST_WEIGHED: i128 = 1_000_000_000_000_000_000_000_000;
 
-/// The word of a part, which is its key in the lines of scores.
+/// Returns the word of a part, which is its key in the lines of scores.
 pub(crate) fn part_word(part: PartName) -> &'static [u8]
     ensures { result.now ≡ part_word part }
 {

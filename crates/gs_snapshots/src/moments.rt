@@ -1,4 +1,4 @@
-//! The moments at which scores are told.
+//! The moments at which scores are reported.
 ghost use Rattle.std.specs.Prelude.{◌≡◌, ◌<◌, IfNone, IfSome, None, option_map};
 ghost use Rattle.gs_snapshots.specs.Moments.{moment_of, occasion_of, occasion_word};
 
@@ -6,7 +6,7 @@ use gs_base::{Millis, PeerNo};
 use gs_plan::Plan;
 use gs_rules::{Event, StoredEntry};
 
-/// Why scores are told at a moment.
+/// Why scores are reported at a moment.
 #[derive(Clone, Copy, Debug, PartialEq, Eq)]
 pub enum Occasion {
     /// A heartbeat began.
@@ -17,20 +17,20 @@ pub enum Occasion {
     Shutdown,
 }
 
-/// A moment of a peer's trace at which scores are told.
+/// A moment of a peer's trace at which scores are reported.
 #[derive(Clone, Copy, Debug, PartialEq, Eq)]
 pub struct Moment {
-    /// Whose trace it is.
+    /// The peer that the trace belongs to.
     pub peer: PeerNo,
     /// The round.
     pub round: u64,
     /// The time, in milliseconds from the start of the run.
     pub at: Millis,
-    /// What happened.
+    /// What happened then.
     pub occasion: Occasion,
 }
 
-/// The moment of an entry of a peer, if scores are told then.
+/// Returns the moment of an entry of a peer, if scores are reported then.
 pub(crate) fn moment_of(plan: &Plan, peer: PeerNo, entry: &StoredEntry) -> Option<Moment>
     requires { 0 < plan.now.round_ms }
     ensures { result ≡ option_map (moment_of plan.now peer entry.now) (occasion_of entry.now.event) }
@@ -47,7 +47,8 @@ pub(crate) fn moment_of(plan: &Plan, peer: PeerNo, entry: &StoredEntry) -> Optio
     }
 }
 
-/// Why scores are told at an event, if they are. Each event is named, so that a new one is decided on.
+/// Returns why scores are reported at an event, if they are. The match names each event, so that a new event needs a
+/// decision here.
 fn occasion_of(event: &Event) -> Option<Occasion>
     ensures { result ≡ occasion_of event.now }
 {
@@ -65,7 +66,7 @@ fn occasion_of(event: &Event) -> Option<Occasion>
     }
 }
 
-/// The word of an occasion, which is that of its event.
+/// Returns the word of an occasion, which is the word of its event.
 pub(crate) fn occasion_word(occasion: Occasion) -> &'static [u8]
     ensures { result.now ≡ occasion_word occasion }
 {

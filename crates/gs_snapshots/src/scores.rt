@@ -1,4 +1,4 @@
-//! The scores of a run over time: by peer, by moment, by neighbour.
+//! Writes the scores of a run over time: by peer, by moment, by neighbour.
 ghost use Rattle.std.specs.Io.KnownBytes.{Appends};
 ghost use Rattle.std.specs.Prelude.{◌≡◌, ◌<◌, ◌++◌, ◌∷◌, [], IfOk, List, OnErr, OnOk, filter, reverse};
 ghost use Rattle.std.specs.List.{flat_map, AllByRecursion};
@@ -33,24 +33,25 @@ use gs_trace::{RoundSpan, TraceFault, write_full, write_page};
 use std::alloc::{AllocError, Global};
 use std::io::Write;
 
-/// What is wanted of a peer of a plan.
+/// What is reported about one peer of a plan.
 #[derive(Drop)]
 struct Asked<'a> {
     plan: &'a Plan,
     peer: PeerNo,
-    /// Of which neighbours, by number.
+    /// The neighbours that are reported, by number.
     neighbours: Vec<PeerNo>,
-    /// In which rounds.
+    /// The rounds that are reported. None stands for all.
     rounds: Option<RoundSpan>,
-    /// How it is told.
+    /// The form of the text.
     form: Option<Form>,
 }
 
-/// Writes the scores of a run that are wanted (docs/FORMATS.md has each field): by peer, then by moment, then by neighbour,
-/// each after what the peer did at that moment. Some 64 KiB of text wait at most, and that of one moment more.
+/// Writes the scores of a run that are wanted, by peer, then by moment, then by neighbour. docs/FORMATS.md explains each
+/// field. Each score is the one after what the peer did at that moment. It buffers at most about 64 KiB of text, plus the
+/// text of one moment.
 ///
 /// # Errors
-/// One where there was no memory, or a write failed. A front of the text has then been written.
+/// A `TraceFault` when out of memory, or when a write failed. By then a prefix of the text has been written.
 pub fn write_scores<W: Write>(
     alloc: Global,
     plan: &Plan,
@@ -73,7 +74,7 @@ pub fn write_scores<W: Write>(
     Ok(())
 }
 
-/// Writes what is told of each peer that is wanted.
+/// Writes the scores that each wanted peer gives.
 fn write_peers<W: Write>(
     plan: &Plan,
     wanted: &Wanted<'_>,
@@ -94,7 +95,7 @@ fn write_peers<W: Write>(
     Ok(())
 }
 
-/// Writes what is told of a peer, if it is wanted.
+/// Writes the scores that a peer gives, if it is wanted.
 fn write_peer_if<W: Write>(
     plan: &Plan,
     wanted: &Wanted<'_>,
@@ -115,7 +116,7 @@ fn write_peer_if<W: Write>(
     Ok(())
 }
 
-/// Writes what is told of a peer.
+/// Writes the scores that a peer gives.
 fn write_peer<W: Write>(
     plan: &Plan,
     wanted: &Wanted<'_>,
@@ -143,7 +144,7 @@ fn write_peer<W: Write>(
     write_entries(&asked, &mut follower, life.trace.entries(), page, output)
 }
 
-/// The neighbours of a peer that are wanted, by number.
+/// Returns the neighbours of a peer that are wanted, by number.
 pub(crate) fn wanted_neighbours(
     alloc: Global,
     plan: &Plan,
@@ -163,7 +164,7 @@ pub(crate) fn wanted_neighbours(
     Ok(list)
 }
 
-/// Writes what is told of a peer at each of its entries, of which its reader has seen none.
+/// Writes the scores that a peer gives at each of its entries. The reader has seen none of these entries yet.
 fn write_entries<W: Write>(
     asked: &Asked<'_>,
     follower: &mut Follower<'_>,
@@ -186,7 +187,7 @@ fn write_entries<W: Write>(
     Ok(())
 }
 
-/// Has a reader see the next entry.
+/// Advances a reader to the next entry.
 fn see_next(follower: &mut Follower<'_>) -> Result<(), AllocError>
     requires { (v : Reading) × Follows follower.old v }
     ensures { OnOk result ((p : Peer) (L : Entries) (e : EntryValue) (left : List EntryValue)
@@ -197,7 +198,7 @@ fn see_next(follower: &mut Follower<'_>) -> Result<(), AllocError>
     Ok(())
 }
 
-/// Adds what is told at an entry, the newest that the peer's reader has seen.
+/// Appends the scores at an entry. It is the newest one that the peer's reader has seen.
 fn push_entry(
     asked: &Asked<'_>,
     out: &mut Vec<u8>,
@@ -215,7 +216,7 @@ fn push_entry(
     }
 }
 
-/// Adds what is told at a moment, if it is in a round that is wanted.
+/// Appends the scores at a moment, if its round is wanted.
 fn push_moment_if(
     asked: &Asked<'_>,
     out: &mut Vec<u8>,
@@ -232,7 +233,7 @@ fn push_moment_if(
     Ok(())
 }
 
-/// Adds what is told at a moment of each neighbour that is wanted.
+/// Appends the score of each wanted neighbour at a moment.
 fn push_moment(
     asked: &Asked<'_>,
     out: &mut Vec<u8>,
@@ -250,7 +251,7 @@ fn push_moment(
     Ok(())
 }
 
-/// Adds a snapshot in a form.
+/// Appends a snapshot in a form.
 #[tactic(auto, unfolding(crate::specs::Forms::snapshot_text))]
 fn push_snapshot(
     plan: &Plan,

@@ -1,4 +1,4 @@
-//! What a neighbour scores at a moment, part by part.
+//! The score of a neighbour at a moment, part by part.
 ghost use Rattle.std.specs.Prelude.{◌≡◌, IfOk, map};
 ghost use Rattle.gs_rules.specs.Scored.{topics_of_neighbour};
 ghost use Rattle.gs_router.specs.Following.{Follows, Reading};
@@ -10,29 +10,29 @@ use gs_router::Follower;
 use gs_score::{ScoreParts, TopicParts};
 use std::alloc::{AllocError, Global};
 
-/// What a topic gives a neighbour.
+/// A topic and the parts of a neighbour's score on it.
 #[derive(Debug, Drop)]
 pub struct OnTopic {
     /// The topic.
     pub topic: Topic,
-    /// What the neighbour has on it.
+    /// The parts of the neighbour's score on this topic.
     pub parts: TopicParts,
 }
 
-/// What a neighbour scores at a moment, after what its peer did then.
+/// The score of a neighbour at a moment, after what its peer did then.
 #[derive(Debug, Drop)]
 pub struct Snapshot {
-    /// When, and for which peer.
+    /// The moment, which also names the peer that scores.
     pub moment: Moment,
-    /// Whose score it is.
+    /// The neighbour that is scored.
     pub neighbour: PeerNo,
-    /// The score, and the parts of it that are not of one topic.
+    /// The score, and those of its parts that belong to no single topic.
     pub parts: ScoreParts,
-    /// The topics on which anything is known of the neighbour, in the order of their bytes.
+    /// The topics on which anything is known about the neighbour, in the order of their bytes.
     pub topics: Seq<OnTopic>,
 }
 
-/// What a neighbour scores at a moment, after the entries that a reader has seen.
+/// Returns the score of a neighbour at a moment, after the entries that a reader has seen.
 pub(crate) fn snapshot_of(
     alloc: Global,
     follower: &Follower<'_>,
@@ -52,7 +52,7 @@ pub(crate) fn snapshot_of(
     })
 }
 
-/// What each topic gives a neighbour on which anything is known of it.
+/// Returns the parts of a neighbour's score on each topic on which anything is known about it.
 fn topics_of(
     alloc: Global,
     follower: &Follower<'_>,
@@ -71,7 +71,7 @@ fn topics_of(
     Ok(list)
 }
 
-/// What a topic gives a neighbour.
+/// Returns the parts of a neighbour's score on a topic.
 fn on_topic(
     follower: &Follower<'_>,
     at: Millis,

@@ -1,4 +1,4 @@
-//! What became of each neighbour of a peer, by the peer's trace.
+//! Summarizes each neighbour of a peer, from the peer's trace.
 ghost use Rattle.std.specs.Prelude.{◌≡◌, ◌<◌, ◌/◌, ◌∷◌, [], IfOk, List, OnOk, map, reverse};
 ghost use Rattle.gs_base.specs.declared.names.PeerNo.{PeerNo as PeerNoValue};
 ghost use Rattle.gs_params.specs.declared.params.Thresholds.{Thresholds as ThresholdsValue};
@@ -31,7 +31,7 @@ use gs_seats::follower_of;
 use gs_trace::RoundSpan;
 use std::alloc::{AllocError, Global};
 
-/// Whose trace is summed up, and in which rounds.
+/// The peer and the rounds that a summary is about.
 #[derive(Clone, Copy, Drop)]
 struct Summed<'a> {
     alloc: Global,
@@ -40,7 +40,7 @@ struct Summed<'a> {
     rounds: Option<RoundSpan>,
 }
 
-/// What became of each neighbour of a peer that is wanted, in the rounds that are wanted.
+/// Returns a summary for each wanted neighbour of a peer, over the wanted rounds.
 pub(crate) fn summaries_of(
     alloc: Global,
     plan: &Plan,
@@ -67,7 +67,7 @@ pub(crate) fn summaries_of(
     Ok(summaries)
 }
 
-/// A summary for each of these neighbours, of nothing.
+/// Returns an empty summary for each of these neighbours.
 fn new_summaries(alloc: Global, neighbours: &[PeerNo]) -> Result<Vec<Summary>, AllocError>
     ensures { IfOk result (λ list. (thresholds : ThresholdsValue)
         → list.items ≡ map (λ (q : PeerNoValue). summary_of thresholds q [] []) neighbours.now) }
@@ -79,7 +79,7 @@ fn new_summaries(alloc: Global, neighbours: &[PeerNo]) -> Result<Vec<Summary>, A
     Ok(summaries)
 }
 
-/// Notes all entries that a reader has yet to see.
+/// Notes all entries that a reader has not seen yet.
 fn sum_up(
     summed: Summed<'_>,
     follower: &mut Follower<'_>,
@@ -97,7 +97,7 @@ fn sum_up(
     Ok(())
 }
 
-/// Notes the newest entry that a reader has seen.
+/// Notes the newest entry that a reader has seen, if its round is wanted.
 fn note_entry(
     summed: Summed<'_>,
     follower: &Follower<'_>,
@@ -120,7 +120,7 @@ fn note_entry(
     Ok(())
 }
 
-/// Notes the newest entry, which is in a round that is wanted.
+/// Notes the newest entry. Its round is wanted.
 fn note_wanted(
     summed: Summed<'_>,
     follower: &Follower<'_>,
@@ -138,7 +138,7 @@ fn note_wanted(
     Ok(())
 }
 
-/// Notes the moment of an entry, if scores are told then.
+/// Notes the scores at an entry, if scores are reported then.
 fn note_moment_of(
     summed: Summed<'_>,
     follower: &Follower<'_>,
@@ -190,7 +190,7 @@ fn note_score(
     summary.note_snapshot(&summed.plan.params.thresholds, snapshot)
 }
 
-/// Notes all that came to nothing at an entry.
+/// Notes each thing that had no effect at an entry.
 fn note_each(all: &[Fallen], summaries: &mut [Summary])
     ensures { summaries.new ≡ with_each all.now summaries.old }
 {
@@ -199,7 +199,7 @@ fn note_each(all: &[Fallen], summaries: &mut [Summary])
     }
 }
 
-/// Notes something that came to nothing.
+/// Notes one thing that had no effect.
 fn note_fallen(fallen: &Fallen, summaries: &mut [Summary])
     ensures { summaries.new ≡ map (with_fallen fallen.now) summaries.old }
 {

@@ -1,4 +1,4 @@
-//! What became of a neighbour over a run, in short.
+//! A summary of one neighbour over a run.
 ghost use Rattle.std.specs.Prelude.{◌≡◌, [], OnOk};
 ghost use Rattle.gs_params.specs.declared.params.Thresholds.{Thresholds as ThresholdsValue};
 ghost use Rattle.gs_snapshots.specs.Noting.{is_lower, with_fallen, with_snapshot};
@@ -12,27 +12,27 @@ use gs_params::Thresholds;
 use gs_rules::Fallen;
 use std::alloc::{AllocError, Global};
 
-/// What became of a neighbour over the moments at which scores are told.
+/// A summary of one neighbour over the moments at which scores are reported.
 #[derive(Debug, Drop)]
 pub struct Summary {
     /// The neighbour.
     pub neighbour: PeerNo,
     /// When its score was below 0.
     pub zero: Course,
-    /// When it was below `gossip_threshold`.
+    /// When its score was below `gossip_threshold`.
     pub gossip: Course,
-    /// When it was below `publish_threshold`.
+    /// When its score was below `publish_threshold`.
     pub publish: Course,
-    /// When it was below `graylist_threshold`.
+    /// When its score was below `graylist_threshold`.
     pub graylist: Course,
-    /// What it scored when it scored least, the first time that it did.
+    /// The snapshot with its lowest score. Among equals, it is the first one.
     pub lowest: Option<Snapshot>,
-    /// How much of what it sent or promised came to nothing.
+    /// How much of what it sent or promised had no effect.
     pub falls: Falls,
 }
 
 impl Summary {
-    /// Nothing is known yet.
+    /// Returns the summary of a neighbour about which nothing is known yet.
     pub(crate) fn new(alloc: Global, neighbour: PeerNo) -> Summary
         ensures { (thresholds : ThresholdsValue) → result ≡ summary_of thresholds neighbour [] [] }
     {
@@ -66,7 +66,7 @@ impl Summary {
         Ok(())
     }
 
-    /// Notes something that came to nothing, of this neighbour or of another.
+    /// Notes one thing that had no effect. It counts only if this neighbour sent or promised it.
     pub(crate) fn note_fallen(&mut self, fallen: &Fallen)
         ensures { self.new ≡ with_fallen fallen.now self.old }
     {
@@ -74,7 +74,7 @@ impl Summary {
     }
 }
 
-/// Whether a neighbour scores less than before.
+/// Says whether a neighbour scores less than its lowest score so far.
 fn is_lower(lowest: &Option<Snapshot>, snapshot: &Snapshot) -> bool
     ensures { result ≡ is_lower score_in lowest.now snapshot.now }
 {

@@ -1,4 +1,4 @@
-//! A summary as lines for people.
+//! Writes a summary as lines for people.
 ghost use Rattle.std.specs.Prelude.{◌≡◌, [], ◌∷◌, ◌++◌, List, OnOk, Some, codes, filter, option_copied};
 ghost use Rattle.std.specs.List.{flat_map};
 ghost use Rattle.gs_report.specs.Text.{score_text};
@@ -18,7 +18,7 @@ use gs_score::Rulebook;
 use gs_trace::{push_code, push_number, push_quoted};
 use std::alloc::AllocError;
 
-/// Adds the lines of a summary. There is none where there is nothing to say.
+/// Appends the lines of a summary. There is no line if there is nothing to report.
 pub(crate) fn push_lines(
     rules: &Rulebook,
     out: &mut Vec<u8>,
@@ -31,7 +31,7 @@ pub(crate) fn push_lines(
     push_falls(out, &summary.falls)
 }
 
-/// Adds when a score was below each bound.
+/// Appends when a score was below each bound.
 fn push_bounds(
     thresholds: &Thresholds,
     out: &mut Vec<u8>,
@@ -60,7 +60,7 @@ fn push_bounds(
     )
 }
 
-/// Adds when a score was below 0.
+/// Appends when a score was below 0.
 fn push_zero(out: &mut Vec<u8>, course: &Course) -> Result<(), AllocError>
     ensures { OnOk result (out.new.items ≡ out.old.items ++ zero_line course.now) }
 {
@@ -69,7 +69,7 @@ fn push_zero(out: &mut Vec<u8>, course: &Course) -> Result<(), AllocError>
     push_after(out, b"below 0", &times)
 }
 
-/// Adds when a score was below a threshold.
+/// Appends when a score was below a threshold.
 fn push_below(
     out: &mut Vec<u8>,
     name: &[u8],
@@ -85,7 +85,7 @@ fn push_below(
     push_after(out, &label, &times)
 }
 
-/// Adds which threshold it is.
+/// Appends the name and the value of a threshold.
 fn push_label(out: &mut Vec<u8>, name: &[u8], threshold: &i64) -> Result<(), AllocError>
     ensures { OnOk result (out.new.items
         ≡ out.old.items ++ (codes "below " ++ name.now ++ codes " (" ++ score_text threshold.now ++ codes ")")) }
@@ -97,7 +97,7 @@ fn push_label(out: &mut Vec<u8>, name: &[u8], threshold: &i64) -> Result<(), All
     push_code(out, b")")
 }
 
-/// Adds from when to when a score was below a bound.
+/// Appends from when to when a score was below a bound.
 fn push_times(out: &mut Vec<u8>, course: &Course) -> Result<(), AllocError>
     ensures { OnOk result (out.new.items ≡ out.old.items ++ times_text course.now) }
 {
@@ -137,7 +137,7 @@ fn push_open(out: &mut Vec<u8>, is_below: bool) -> Result<(), AllocError>
     Ok(())
 }
 
-/// Adds a text on a line after a label, if there is any.
+/// Appends a line with a label and a text, if the text is not empty.
 fn push_after(out: &mut Vec<u8>, label: &[u8], text: &[u8]) -> Result<(), AllocError>
     ensures { OnOk result (out.new.items ≡ out.old.items ++ line_after label.now text.now) }
 {
@@ -150,7 +150,7 @@ fn push_after(out: &mut Vec<u8>, label: &[u8], text: &[u8]) -> Result<(), AllocE
     push_code(out, b"\n")
 }
 
-/// Adds what a neighbour scored when it scored least, if that is below 0.
+/// Appends the lowest score of a neighbour, if it is below 0.
 fn push_lowest_of(
     rules: &Rulebook,
     out: &mut Vec<u8>,
@@ -177,7 +177,7 @@ fn push_lowest_if(
     Ok(())
 }
 
-/// Adds what a neighbour scored when it scored least, and which part of that weighs most.
+/// Appends the lowest score of a neighbour, and the part that adds least to it.
 fn push_lowest(rules: &Rulebook, out: &mut Vec<u8>, snapshot: &Snapshot) -> Result<(), AllocError>
     ensures { OnOk result (out.new.items ≡ out.old.items ++ lowest_text rules.now snapshot.now) }
 {
@@ -226,7 +226,7 @@ fn push_on_topic(out: &mut Vec<u8>, topic: &Topic) -> Result<(), AllocError>
     push_quoted(out, topic.0.as_slice())
 }
 
-/// Adds how much of what a neighbour sent or promised came to nothing.
+/// Appends how much of what a neighbour sent or promised had no effect.
 fn push_falls(out: &mut Vec<u8>, falls: &Falls) -> Result<(), AllocError>
     ensures { OnOk result (out.new.items ≡ out.old.items ++ falls_lines falls.now) }
 {
@@ -278,7 +278,7 @@ fn push_promises(out: &mut Vec<u8>, falls: &Falls) -> Result<(), AllocError>
     push_after(out, b"promises: ", &counts)
 }
 
-/// Adds a count after others, if it is not 0.
+/// Appends a count after others, if it is not 0.
 fn push_count(counts: &mut Vec<u8>, number: u64, word: &[u8]) -> Result<(), AllocError>
     ensures { OnOk result ((before : List Count)
         → counts.old.items ≡ joined (filter is_any before)
@@ -293,7 +293,7 @@ fn push_count(counts: &mut Vec<u8>, number: u64, word: &[u8]) -> Result<(), Allo
     push_code(counts, word)
 }
 
-/// Adds a comma, if there is something to part from what comes next.
+/// Appends a comma, if something stands before it.
 fn push_comma(counts: &mut Vec<u8>) -> Result<(), AllocError>
     ensures { OnOk result (counts.new.items ≡ counts.old.items ++ comma_after counts.old.items) }
 {

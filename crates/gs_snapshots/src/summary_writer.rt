@@ -1,4 +1,4 @@
-//! The summaries of a run: by peer, then by neighbour.
+//! Writes the summaries of a run: by peer, then by neighbour.
 ghost use Rattle.std.specs.Io.KnownBytes.{Appends};
 ghost use Rattle.std.specs.Prelude.{◌≡◌, ◌<◌, ◌++◌, IfOk, OnErr, OnOk, length, nat_lt};
 ghost use Rattle.std.specs.List.{flat_map, AllByRecursion};
@@ -26,13 +26,13 @@ use gs_trace::{TraceFault, push_code, write_full, write_page};
 use std::alloc::{AllocError, Global};
 use std::io::Write;
 
-/// Writes a summary of the scores of a run that are wanted (docs/FORMATS.md has each line): by peer, then by neighbour,
-/// when each scored below 0 and below each threshold, what it scored least and why, and how much of what it sent or
-/// promised came to nothing. The form that is wanted does not matter. Some 64 KiB of text wait at most, and that of one
-/// peer more.
+/// Writes a summary of the scores of a run that are wanted, by peer and then by neighbour. docs/FORMATS.md explains each
+/// line. For each neighbour, the summary states when it scored below 0 and below each threshold. It states the lowest score
+/// and its cause, and how much of what the neighbour sent or promised had no effect. The form in `wanted` does not matter.
+/// It buffers at most about 64 KiB of text, plus the text of one peer.
 ///
 /// # Errors
-/// One where there was no memory, or a write failed. A front of the text has then been written.
+/// A `TraceFault` when out of memory, or when a write failed. By then a prefix of the text has been written.
 pub fn write_summary<W: Write>(
     alloc: Global,
     plan: &Plan,
@@ -55,7 +55,7 @@ pub fn write_summary<W: Write>(
     Ok(())
 }
 
-/// Says that there is nothing to say, unless something was said.
+/// Appends the line that there is nothing to report, unless something was reported.
 fn push_line_unless(is_any: bool, out: &mut Vec<u8>) -> Result<(), AllocError>
     ensures { OnOk result (out.new.items ≡ out.old.items ++ line_unless is_any) }
 {
@@ -68,7 +68,7 @@ fn push_line_unless(is_any: bool, out: &mut Vec<u8>) -> Result<(), AllocError>
     )
 }
 
-/// Writes the summaries of each peer that is wanted, and gives whether there is one.
+/// Writes the summaries of each peer that is wanted, and returns whether there is one.
 fn write_peers<W: Write>(
     plan: &Plan,
     wanted: &Wanted<'_>,
@@ -93,7 +93,7 @@ fn write_peers<W: Write>(
     Ok(is_any)
 }
 
-/// Adds the summaries of a peer, if it is wanted, and gives whether there is one.
+/// Appends the summaries of a peer, if it is wanted, and returns whether there is one.
 fn push_peer_if(
     plan: &Plan,
     wanted: &Wanted<'_>,
@@ -111,7 +111,7 @@ fn push_peer_if(
     Ok(false)
 }
 
-/// Adds the summaries of a peer that is wanted, and gives whether there is one.
+/// Appends the summaries of a peer that is wanted, and returns whether there is one.
 fn push_wanted(
     plan: &Plan,
     wanted: &Wanted<'_>,
@@ -128,7 +128,7 @@ fn push_wanted(
     Ok(before < out.len())
 }
 
-/// Adds the summaries of a peer.
+/// Appends the summaries of a peer.
 fn push_peer(
     plan: &Plan,
     wanted: &Wanted<'_>,
@@ -145,7 +145,7 @@ fn push_peer(
     push_blocks(plan, &rules, peer.0, out, &summaries)
 }
 
-/// Adds summaries of a peer's neighbours.
+/// Appends the summaries of a peer's neighbours.
 fn push_blocks(
     plan: &Plan,
     rules: &Rulebook,
@@ -162,7 +162,7 @@ fn push_blocks(
     Ok(())
 }
 
-/// Adds the summary of a neighbour.
+/// Appends the summary of a neighbour.
 fn push_block(
     plan: &Plan,
     rules: &Rulebook,
@@ -178,7 +178,7 @@ fn push_block(
     push_under_names(plan, peer, summary.neighbour, out, &lines)
 }
 
-/// Adds lines under who scores whom, if there are any.
+/// Appends lines below a heading that names the peer and the neighbour, if there are lines.
 fn push_under_names(
     plan: &Plan,
     peer: PeerNo,

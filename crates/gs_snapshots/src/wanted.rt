@@ -1,4 +1,4 @@
-//! Which scores are wanted.
+//! Which scores are reported, and how.
 ghost use Rattle.std.specs.Prelude.{◌≡◌};
 ghost use Rattle.gs_trace.specs.Wanted.{spelled};
 ghost use Rattle.gs_snapshots.specs.Wishes.{has_name, is_in_rounds, no_wish, wishes_of};
@@ -8,29 +8,29 @@ use gs_plan::Plan;
 use gs_report::name_of;
 use gs_trace::{RoundSpan, Wish};
 
-/// Which scores are wanted: those that fulfil each of these wishes.
+/// Which scores are reported, and how: those that match each of these options.
 #[derive(Clone, Copy, Debug, Drop)]
 pub struct Wanted<'a> {
-    /// Those that the peer of this name gives.
+    /// Only scores that the peer with this name gives.
     pub peer: Wish<'a>,
-    /// Those that the neighbour of this name gets.
+    /// Only scores that the neighbour with this name gets.
     pub neighbour: Wish<'a>,
-    /// Those of moments in these rounds.
+    /// Only scores at moments in these rounds.
     pub rounds: Option<RoundSpan>,
-    /// How they are told: as JSON Lines where nothing is said.
+    /// The form of the text. None stands for JSON Lines.
     pub form: Option<Form>,
 }
 
-/// How scores are told.
+/// The form of the text that reports scores.
 #[derive(Clone, Copy, Debug, PartialEq, Eq)]
 pub enum Form {
-    /// As JSON Lines: a line for each neighbour at each moment.
+    /// JSON Lines: a line for each neighbour at each moment.
     Json,
-    /// As CSV: a row for each part.
+    /// CSV: a row for each part.
     Csv,
 }
 
-/// What wants all scores, as JSON Lines.
+/// Returns the options that report all scores, as JSON Lines.
 pub fn all_scores<'a>() -> Wanted<'a>
     ensures { wishes_of result ≡ no_wish }
 {
@@ -42,7 +42,7 @@ pub fn all_scores<'a>() -> Wanted<'a>
     }
 }
 
-/// Whether the name that is wished for is that of a number.
+/// Says whether the name that an option asks for, if any, belongs to the peer with this number.
 pub(crate) fn has_name(wish: Wish<'_>, plan: &Plan, number: PeerNo) -> bool
     ensures { result ≡ has_name (spelled wish.entry) plan.now number }
 {
@@ -52,7 +52,7 @@ pub(crate) fn has_name(wish: Wish<'_>, plan: &Plan, number: PeerNo) -> bool
     }
 }
 
-/// Whether it is one of the rounds that are wished for.
+/// Says whether a round is among those that an option asks for. Without the option, each round is.
 pub(crate) fn is_in_rounds(rounds: Option<RoundSpan>, round: u64) -> bool
     ensures { result ≡ is_in_rounds rounds round }
 {

@@ -1,4 +1,4 @@
--- What a text that is written piece by piece adds to a writer.
+-- What a writer has more after a text was written to it piece by piece.
 use Rattle.std.specs.Prelude.{ℕ, List, take, Option}
 use Rattle.std.specs.Io.KnownBytes.{Appends}
 

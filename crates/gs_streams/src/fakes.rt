@@ -4,7 +4,7 @@ ghost use Rattle.std.specs.Prelude.{Some};
 use std::io;
 use std::io::{ErrorKind, Read, Write};
 
-/// Gives a text and fails after it.
+/// A reader that gives a text and then fails.
 #[derive(Debug, Drop)]
 pub struct Broken<'a> {
     pub rest: &'a [u8],
@@ -21,7 +21,7 @@ impl<'a> Read for Broken<'a> {
     }
 }
 
-/// Takes at most `step` bytes at a time, `room` in all, and then fails or takes none.
+/// A writer that takes at most `step` bytes at a time and `room` bytes in all. After that it fails or takes none.
 #[derive(Debug, Drop)]
 pub struct Narrow {
     pub taken: Vec<u8>,

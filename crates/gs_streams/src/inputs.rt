@@ -1,4 +1,4 @@
-//! The scenario that an input holds: the plan of its bytes, or why they are refused.
+//! The scenario in an input: the plan that its bytes describe, or why they are refused.
 ghost use Rattle.std.specs.Prelude.{◌≡◌, ◌≤◌, ◌⊎◌, IfErr, IfOk, Some, codes, length};
 ghost use Rattle.gs_plan.specs.Plans.{IsInRange};
 ghost use Rattle.gs_scenario.specs.declared.fault.ScenarioFault.TheVariants.{NoMemory};
@@ -11,10 +11,10 @@ use gs_plan::Plan;
 use gs_scenario::{Found, ScenarioFault, Wanted, read_plan};
 use std::alloc::Global;
 
-/// The plan that the bytes of a whole input describe.
+/// Returns the plan that the bytes of a whole input describe.
 ///
 /// # Errors
-/// `Toml` where the bytes are no UTF-8, and else as at `read_plan`.
+/// `Toml` if the bytes are not UTF-8, and else the errors of `read_plan`.
 pub fn plan_from(alloc: Global, bytes: &[u8]) -> Result<Plan, ScenarioFault>
     requires { length bytes.now ≤ longest_input }
     ensures found { IfOk result (λ plan. IsScenario (Some bytes.now) plan) }
@@ -27,8 +27,8 @@ pub fn plan_from(alloc: Global, bytes: &[u8]) -> Result<Plan, ScenarioFault>
     }
 }
 
-/// The refusal of an input that is too long, whatever stands in it: 29, at `input`. `NoMemory` where
-/// there is none for the place.
+/// Returns the refusal of an input that is too long, whatever it contains: 29, at `input`. If memory for the place runs out, it
+/// returns `NoMemory` instead.
 pub fn input_too_long(alloc: Global) -> ScenarioFault
     ensures { (result ≡ input_too_long) ⊎ (result ≡ NoMemory) }
 {

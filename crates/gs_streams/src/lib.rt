@@ -1,4 +1,4 @@
-//! Reading all of an input, the plan that its bytes describe, and writing all of a text.
+//! Reads a whole input, reads the plan that its bytes describe, and writes a whole text.
 #![tactic(auto)]
 
 ghost use Rattle.std.specs.Prelude.{◌≡◌, ◌≤◌, ◌<◌, length, IfOk, IfSome, IsErrOf, List, OnErr, OnOk, ℕ};
@@ -22,13 +22,12 @@ pub const MOST_READS: u32 = 10_000_000;
 /// Why an input was not read to its end.
 #[derive(Clone, Copy, Debug, PartialEq, Eq)]
 pub enum ReadFault {
-    /// A read failed otherwise than by an interruption, or the input had not ended after
-    /// `MOST_READS` reads. Nothing else comes as this; no clause can say so, since a reader's
-    /// contract doesn't say when a read fails.
+    /// A read failed for another reason than an interruption, or the input had not ended after `MOST_READS` reads. Nothing else
+    /// gives this fault. No clause can say so, since a reader's contract doesn't say when a read fails.
     Failed,
     /// The input is longer than it may be.
     TooLong,
-    /// There was no memory for it.
+    /// Memory ran out.
     NoMemory,
 }
 
@@ -44,13 +43,11 @@ impl From<AllocError> for ReadFault {
 #[derive(Clone, Copy, Debug, PartialEq, Eq)]
 pub struct WriteFailed;
 
-/// Reads an input to its end, by at most `MOST_READS` reads. An interrupted read counts as one of
-/// them and is tried again.
+/// Reads an input to its end, by at most `MOST_READS` reads. An interrupted read counts as one of them and is tried again.
 ///
 /// # Errors
-/// `TooLong` where there are more than `LONGEST_INPUT` bytes; `Failed` where a read failed or the
-/// reads ran out; `NoMemory` where there is none for the bytes. The reader then stands after what
-/// was read.
+/// `TooLong` if there are more than `LONGEST_INPUT` bytes. `Failed` if a read failed or the reads ran out. `NoMemory` if memory
+/// runs out. After an error the reader stands after what was read.
 pub fn read_input<R: Read>(alloc: Global, input: &mut R) -> Result<Vec<u8>, ReadFault>
     ensures whole { IfOk result (λ text. IfSome (R.remaining input.old) (λ given. text.items ≡ given)) }
     ensures at_end { OnOk result (IsAtEnd (R.remaining input.new)) }
@@ -100,11 +97,11 @@ fn read_within<R: Read>(
     Err(ReadFault::Failed)
 }
 
-/// Writes a text, by as many writes as it takes.
+/// Writes a whole text, by as many writes as it takes.
 ///
 /// # Errors
-/// `WriteFailed` where a write fails, an interrupted one too, or takes nothing; a front of the text
-/// has then been written.
+/// `WriteFailed` if a write takes nothing or fails; an interrupted write counts as failed. Only a front of the text has then
+/// been written.
 pub fn write_text<W: Write>(output: &mut W, text: &[u8]) -> Result<(), WriteFailed>
     ensures ok { OnOk result (Appends (W.contents output.old) (W.contents output.new) text.now) }
     ensures err { OnErr result (AppendsFront (W.contents output.old) (W.contents output.new) text.now) }
@@ -120,7 +117,7 @@ pub fn write_text<W: Write>(output: &mut W, text: &[u8]) -> Result<(), WriteFail
     Ok(())
 }
 
-/// Writes a line, or a front of it, to where there is nobody left to report to that this fails.
+/// Writes a line, or only a front of it. It reports no failure, since there is nobody left to report it to.
 pub fn try_to_write<W: Write>(output: &mut W, line: &str)
     ensures { AppendsFront (W.contents output.old) (W.contents output.new) line.now }
 {

@@ -16,7 +16,7 @@ impl Read for Endless {
     }
 }
 
-/// Gives nothing, and doesn't end. Counts how often it is read.
+/// Gives nothing, and doesn't end. It counts how often it is read.
 #[derive(Drop)]
 struct Stalled {
     reads: u64,
@@ -53,7 +53,7 @@ impl Read for Trickle {
     }
 }
 
-/// How much is read of a trickle of `left` bytes, where 4 bytes and 12 reads are the bounds.
+/// How many bytes are read from a trickle of `left` bytes, where 4 bytes and 12 reads are the bounds.
 fn trickled(alloc: Global, left: usize) -> Result<usize, ReadFault> {
     let mut input = Trickle {
         left,
@@ -70,7 +70,7 @@ fn reads_whole(alloc: Global, text: &[u8]) -> bool {
     }
 }
 
-/// What a narrow writer took of `abcdef`, and whether that was all.
+/// What a narrow writer took from `abcdef`, and whether that was all.
 fn written(alloc: Global, step: usize, room: usize, fails: bool) -> (Vec<u8>, bool) {
     let mut output = Narrow {
         taken: Vec::new(alloc),
@@ -136,7 +136,7 @@ fn an_input_is_read_so_often_at_most(rt: HostRuntime) {
     );
 }
 
-/// How much is read of this many bytes.
+/// How many bytes are read from an input of this length.
 fn read_of(alloc: Global, length: usize) -> Result<usize, ReadFault> {
     let input = vec![in alloc; 7u8; length]?;
     Ok(read_input(alloc, &mut input.as_slice())?.len())

@@ -30,7 +30,7 @@ use Rattle.gs_trace.specs.Rpcs.{graft_text, ihave_text, iwant_text, message_text
 abbrev pub event_text : List ℕ → List ℕ
 event_text word = codes "\"event\":\"" ++ word ++ codes "\""
 
--- which neighbour it came of
+-- which neighbour it came from
 abbrev pub from_text : List (List ℕ) → PeerNo → List ℕ
 from_text names q = codes ",\"from\":" ++ peer_text names q
 
@@ -52,7 +52,7 @@ part_word (Want part) = codes "iwant"
 part_word (GraftIn part) = codes "graft"
 part_word (PruneIn part) = codes "prune"
 
--- the part as it stands in its RPC; of a message also its identifier
+-- the part as it stands in its RPC, and for a message also its identifier
 abbrev pub part_text : RpcPart → List ℕ
 part_text (Sub part) = sub_text part
 part_text (Msg part) = message_text part ++ codes ",\"id\":" ++ id_text (message_id (payload_of part))
@@ -85,7 +85,7 @@ event_word Decay = codes "decay"
 event_word (RoundEnd r) = codes "round_end"
 event_word Shut = codes "shut"
 
--- and that of a line of the script which was refused
+-- and the word of a line of the script that was refused
 abbrev pub refused_word : List ℕ
 refused_word = codes "refused"
 
@@ -133,7 +133,7 @@ mark_text word = codes "{\"mark\":\"" ++ word ++ codes "\""
 abbrev pub peer_member : List (List ℕ) → PeerNo → List ℕ
 peer_member names q = codes ",\"peer\":" ++ peer_text names q
 
--- a mark of a neighbour, and one of a neighbour on a topic
+-- a mark about a neighbour, and a mark about a neighbour on a topic
 abbrev pub mark_of : List ℕ → List (List ℕ) → PeerNo → List ℕ
 mark_of word names q = mark_text word ++ peer_member names q
 

@@ -1,4 +1,4 @@
--- The texts of what neighbours sent or promised that came to nothing.
+-- The texts of what neighbours sent or promised without effect.
 use Rattle.std.specs.Prelude.{ℕ, List, ◌++◌, codes}
 use Rattle.gs_base.specs.declared.names.PeerNo.{PeerNo}
 use Rattle.gs_rules.specs.declared.fallen.Fallen.{Fallen}
@@ -26,7 +26,7 @@ no_answer_word TooOften = codes "too_often"
 abbrev pub why_member : List ℕ → List ℕ
 why_member word = codes ",\"why\":\"" ++ word ++ codes "\""
 
--- what came to nothing, and of which neighbour
+-- what had no effect, and the neighbour that sent or promised it
 abbrev pub fallen_of : List ℕ → List (List ℕ) → PeerNo → List ℕ
 fallen_of word names q = codes "{\"what\":\"" ++ word ++ codes "\"" ++ from_text names q
 
@@ -44,6 +44,6 @@ fallen_members names (Broken p) =
 abbrev pub fallen_object : List (List ℕ) → Fallen → List ℕ
 fallen_object names fallen = fallen_members names fallen ++ codes "}"
 
--- all that came to nothing at an entry
+-- everything that had no effect at an entry
 abbrev pub fell_away_member : List (List ℕ) → List Fallen → List ℕ
 fell_away_member names all = codes ",\"fell_away\":" ++ list_text (fallen_object names) all

@@ -28,8 +28,8 @@ use Rattle.gs_trace.specs.Fallen.{fell_away_member}
 abbrev pub Seen : Type 0
 Seen = Entry × List Fallen
 
--- the entries of a peer that come after others, each with what came to nothing at it: those after are the oldest first,
--- and those before the newest first
+-- the entries of a peer that come after others, each with what came to nothing at it. The entries after have the oldest
+-- first, and the entries before have the newest first.
 abbrev pub seen : Peer → Entries → List Entry → List Seen
 seen p L [] = []
 seen p L (e ∷ es) = (e, fell_away p L e.at e.event) ∷ seen p (e ∷ L) es
@@ -44,7 +44,7 @@ seen_by plan x = seen (peer_in plan x.0) [] (reverse x.1.trace)
 abbrev pub ends_round : Seen → Bool
 ends_round x = of_round_end (λ r. true) false x.0.event
 
--- of entries, the oldest first: those up to the first end of a round, with it, and those after it
+-- entries up to the first end of a round, including it, and the entries after it: the oldest first
 abbrev pub up_to_end : List Seen → List Seen
 up_to_end [] = []
 up_to_end (x ∷ xs) = x ∷ (if ends_round x then [] else up_to_end xs)
@@ -58,14 +58,14 @@ abbrev pub after_ends : ℕ → List Seen → List Seen
 after_ends zero xs = xs
 after_ends (suc r) xs = after_ends r (after_end xs)
 
--- those of a round. What comes after the end of the last one is of it, too.
+-- those of a round. What comes after the end of the last round belongs to it, too.
 abbrev pub in_round : ℕ → ℕ → List Seen → List Seen
 in_round last r xs = if r == last then after_ends r xs else up_to_end (after_ends r xs)
 
 -- ---- what there is to say
 
--- What is said of a peer in a round: an entry of its trace with what came to nothing at it, or a line of the script that it
--- refused.
+-- What is said about a peer in a round. It is an entry of its trace with what came to nothing at it, or a line of the script
+-- that it refused.
 pub data Told : Type 0 where
   Did : ℕ → PeerNo → Entry → List Fallen → Told
   Refused : ℕ → PeerNo → RefusedLine → Told
@@ -114,12 +114,12 @@ line_text plan (Did r q e fallen) =
 line_text plan (Refused r q line) =
     line_start (names_of plan) r line.at q ++ refusal_members plan line ++ codes "}\n"
 
--- who dials whom
+-- a dial: the peer that dials, and the peer that is dialled
 abbrev pub dial_text : List (List ℕ) → Dial → List ℕ
 dial_text names d =
     codes "{\"from\":" ++ peer_text names d.from ++ codes ",\"to\":" ++ peer_text names d.to ++ codes "}"
 
--- the first line: the names of the peers by their numbers, how long and how many the rounds are, and who dials whom
+-- the first line: the names of the peers by their numbers, the length and number of the rounds, and the dials
 abbrev pub head_text : Plan → List ℕ
 head_text plan =
     codes "{\"peers\":" ++ list_text quoted (names_of plan) ++ codes ",\"round_ms\":" ++ decimal plan.round_ms

@@ -4,7 +4,7 @@ use Rattle.gs_trace.specs.declared.wanted.RoundSpan.{RoundSpan}
 use Rattle.gs_trace.specs.declared.spans.Reading.{Reading}
 use Rattle.gs_trace.specs.declared.spans.Reading.TheVariants.{Nothing, First, Dot, Dots, Last}
 
--- a number with one decimal digit more, where the byte is one and the number fits
+-- a number with one more decimal digit, if the byte is a digit and the number fits
 abbrev pub with_digit : ℕ → ℕ → Option ℕ
 with_digit number byte =
     if nat_lt byte 48 then None
@@ -20,7 +20,7 @@ abbrev pub last_of : ℕ → Option ℕ → Option Reading
 last_of first None = None
 last_of first (Some number) = Some (Last first number)
 
--- what was read with one byte more
+-- what was read after one more byte
 abbrev pub after_byte : Reading → ℕ → Option Reading
 after_byte Nothing byte = first_of (with_digit 0 byte)
 after_byte (First first) byte = if byte == 46 then Some (Dot first) else first_of (with_digit first byte)
@@ -28,7 +28,7 @@ after_byte (Dot first) byte = if byte == 46 then Some (Dots first) else None
 after_byte (Dots first) byte = last_of first (with_digit 0 byte)
 after_byte (Last first last) byte = last_of first (with_digit last byte)
 
--- the rounds that were read, where both numbers were and are in order
+-- the rounds that were read, if both numbers were read and the first is at most the last
 abbrev pub in_order : Reading → Option RoundSpan
 in_order Nothing = None
 in_order (First first) = None

@@ -1,4 +1,4 @@
--- How a trace is told round by round: what a reader of each peer's trace has left of it.
+-- How a trace is written round by round: what a reader of each peer's trace has left to read.
 use Rattle.std.specs.Prelude.{◌≡◌, ◌≤◌, ℕ, zero, suc, Bool, if◌then◌else◌, List, [], ◌∷◌, map}
 use Rattle.std.specs.List.{flat_map}
 use Rattle.gs_base.specs.declared.names.PeerNo.{PeerNo}
@@ -20,7 +20,7 @@ entry_of followed = (followed.entry.now, followed.fallen.items)
 abbrev pub left_in : Reading → List Seen
 left_in v = seen v.peer v.before v.left
 
--- of entries that are left: those of a round, and in the last one all
+-- the entries of a round among those that are left: in the last round all of them
 abbrev pub of_round : Bool → List Seen → List Seen
 of_round is_last xs = if is_last then xs else up_to_end xs
 
@@ -45,7 +45,7 @@ pub record StandsAt (plan : Plan) (r : ℕ) (x : PeerNo × Finished) (f : Follow
   pub peer : view.peer ≡ peer_in plan x.0
   pub left : r ≤ plan.rounds → left_in view ≡ after_ends r (seen_by plan x)
 
--- the readers of the peers: a number of first ones at the beginning of the round after, and the others at that of the round
+-- the readers of the peers: the first `n` stand at the beginning of the next round, and the others at the beginning of this one
 abbrev pub StandAt : Plan → ℕ → ℕ → List (PeerNo × Finished) → List Follower → Type 0
 StandAt plan r n [] [] = Unit {0}
 StandAt plan r n [] (f ∷ fs) = ⊥
@@ -53,6 +53,6 @@ StandAt plan r n (x ∷ xs) [] = ⊥
 StandAt plan r zero (x ∷ xs) (f ∷ fs) = StandsAt plan r x f × StandAt plan r zero xs fs
 StandAt plan r (suc n) (x ∷ xs) (f ∷ fs) = StandsAt plan (suc r) x f × StandAt plan r n xs fs
 
--- what is said of peers in a round
+-- what is said about peers in a round
 abbrev pub told_by : Plan → List (PeerNo × Finished) → ℕ → List Told
 told_by plan peers r = flat_map (told_of plan r) peers

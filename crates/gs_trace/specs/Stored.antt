@@ -1,4 +1,4 @@
--- What values in memory satisfy, though the logic does not know it: a byte is below 256, and a number fits its type.
+-- What holds for values in memory, although the logic does not know it: a byte is below 256, and a number fits its type.
 use Rattle.std.specs.Prelude.{ℕ, ◌<◌, ◌≤◌, ◌^◌, unsigned_abs, List, Option, None, Some}
 use Rattle.std.specs.List.{AllByRecursion}
 use Rattle.gs_base.specs.declared.control.Control.{Control}

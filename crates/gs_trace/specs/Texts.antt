@@ -11,7 +11,7 @@ use Rattle.gs_plan.specs.declared.plan.PlannedPeer.{PlannedPeer}
 
 -- ---- bytes
 
--- A byte of a text in quotes. Each that JSON does not take as it is, and each that is no ASCII, is given by its number.
+-- A byte of a text in quotes. A byte that JSON does not take unchanged, or that is not ASCII, is given by its number.
 abbrev pub escaped : ℕ → List ℕ
 escaped byte =
     if nat_lt byte 32 || (byte == 34 || (byte == 92 || nat_lt 126 byte))
@@ -65,11 +65,11 @@ moment_text at = decimal at.0
 abbrev pub names_of : Plan → List (List ℕ)
 names_of plan = map (λ (planned : PlannedPeer). planned.name) plan.peers
 
--- a name, and else a number
+-- a name, or else a number
 abbrev pub name_or_number : Option (List ℕ) → ℕ → List ℕ
 name_or_number None n = decimal n
 name_or_number (Some name) n = quoted name
 
--- a peer by its name, and by its number where the plan has no such peer
+-- the name of a peer, or its number if the plan has no such peer
 abbrev pub peer_text : List (List ℕ) → PeerNo → List ℕ
 peer_text names q = name_or_number (slice_get names q.0) q.0

@@ -1,5 +1,5 @@
--- The traces and the refused lines that a report has, and what is known of a plan and its report where one text tells all
--- of both.
+-- The traces and the refused lines that a report has. Also, what must hold for a plan and its report so that a text says
+-- everything about both.
 use Rattle.std.specs.Prelude.{if◌then◌else◌, List, [], ◌∷◌, map}
 use Rattle.std.specs.List.{flat_map}
 use Rattle.gs_base.specs.declared.names.PeerNo.{PeerNo}
@@ -22,7 +22,7 @@ traced x = (x.0, x.1.trace)
 abbrev pub traces : Report → List (PeerNo × List Entry)
 traces report = map traced report.peers.items
 
--- the lines of the script that a peer refused, of all that is told
+-- the lines of the script that a peer refused, among everything that a trace says
 abbrev pub refusal_of : PeerNo → Told → List RefusedLine
 refusal_of q (Did r p e fallen) = []
 refusal_of q (Refused r p line) = if same_peer p q then line ∷ [] else []
@@ -30,7 +30,7 @@ refusal_of q (Refused r p line) = if same_peer p q then line ∷ [] else []
 abbrev pub refusals_in : PeerNo → List Told → List RefusedLine
 refusals_in q all = flat_map (refusal_of q) all
 
--- The report of a run of a plan that was read, both as they are in memory.
+-- The report of a run of a plan that was read. Both are as they are in memory.
 pub record IsReportOf (plan : Plan) (report : Report) : Type 0 where
   pub in_range : IsInRange plan
   pub run : IsReport plan report

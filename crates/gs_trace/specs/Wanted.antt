@@ -15,17 +15,17 @@ use Rattle.gs_trace.specs.Events.{event_word, refused_word}
 use Rattle.gs_trace.specs.Lines.{Told, Did, Refused, head_text, line_text, told}
 use Rattle.gs_trace.specs.Topics.{entry_names, line_names}
 
--- What is wished for. Where a part is None, there is no such wish.
+-- What the options ask for. A part is None if that option is not given.
 pub record Wishes : Type 0 where
-  -- lines of the peer of this name
+  -- lines of the peer with this name
   pub peer : Option (List ℕ)
   -- lines that name this topic
   pub topic : Option (List ℕ)
   pub rounds : Option RoundSpan
-  -- lines of the events of these words, with commas between them
+  -- lines whose event has one of these words, with commas between them
   pub events : Option (List ℕ)
 
--- the text that is wished for
+-- the text that an option asks for
 abbrev pub spelled : Wish → Option (List ℕ)
 spelled Any = None
 spelled (Only text) = Some text.now
@@ -37,7 +37,7 @@ wishes_of w =
 abbrev pub no_wish : Wishes
 no_wish = record { peer = None; topic = None; rounds = None; events = None }
 
--- what is wished for satisfies the test
+-- what an option asks for satisfies the test, or the option is not given
 abbrev pub suits : {A : Type 0} → (A → Bool) → Option A → Bool
 suits test None = true
 suits test (Some wish) = test wish
@@ -59,7 +59,7 @@ lies_in r rounds = nat_le rounds.first r && nat_le r rounds.last
 abbrev pub is_in_rounds : Wishes → ℕ → Bool
 is_in_rounds w r = suits (lies_in r) w.rounds
 
--- one of these events, by the word that the line has
+-- the line has the word of one of these events
 abbrev pub is_event : Wishes → List ℕ → Bool
 is_event w word = suits (is_among word) w.events
 
@@ -81,6 +81,6 @@ is_wanted w plan (Refused r q line) =
 abbrev pub wanted_text : Wishes → Plan → Report → List ℕ
 wanted_text w plan report = head_text plan ++ flat_map (line_text plan) (filter (is_wanted w plan) (told plan report))
 
--- the line, where it is wanted
+-- the line, if it is wanted
 abbrev pub line_if : Wishes → Plan → Told → List ℕ
 line_if w plan x = if is_wanted w plan x then line_text plan x else []

@@ -1,4 +1,4 @@
-//! What happened at a peer as members of an object.
+//! What happened at a peer, as members of a JSON object.
 ghost use Rattle.std.specs.Prelude.{◌≡◌, ◌++◌, OnOk, codes, decimal};
 ghost use Rattle.gs_base.specs.Names.{message_id, payload_of};
 ghost use Rattle.gs_trace.specs.Texts.{hex_text, id_text, names_of, peer_text};
@@ -68,10 +68,10 @@ fn loss_word(loss: Loss) -> &'static [u8]
     }
 }
 
-/// Adds which event it is, by its word.
+/// Adds the member `event` with the word of an event.
 ///
 /// # Errors
-/// `AllocError` where there was no memory for it. A part of it may be there then.
+/// `AllocError` when out of memory. A part of the text may have been added then.
 pub fn push_word(out: &mut Vec<u8>, word: &[u8]) -> Result<(), AllocError>
     ensures { OnOk result (out.new.items ≡ out.old.items ++ event_text word.now) }
 {
@@ -94,7 +94,7 @@ pub(crate) fn push_rpc(plan: &Plan, out: &mut Vec<u8>, rpc: &Rpc) -> Result<(), 
     rpc.push(plan, out)
 }
 
-/// Adds an RPC that others may have, too.
+/// Adds an RPC that others may share.
 pub(crate) fn push_shared_rpc(
     plan: &Plan,
     out: &mut Vec<u8>,
@@ -282,7 +282,7 @@ fn push_raw(plan: &Plan, out: &mut Vec<u8>, to: PeerNo, bytes: &[u8]) -> Result<
     push_hex(out, bytes)
 }
 
-/// Adds which event it is, and whom it is meant for.
+/// Adds which event it is, and the peer that it is for.
 fn push_word_to(plan: &Plan, out: &mut Vec<u8>, word: &[u8], to: PeerNo) -> Result<(), AllocError>
     ensures { OnOk result (out.new.items
         ≡ out.old.items ++ (event_text word.now ++ codes ",\"to\":" ++ peer_text (names_of plan.now) to)) }

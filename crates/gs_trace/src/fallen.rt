@@ -1,4 +1,4 @@
-//! What neighbours sent or promised that came to nothing, as objects.
+//! What neighbours sent or promised without effect, as JSON objects.
 ghost use Rattle.std.specs.Prelude.{◌≡◌, ◌++◌, OnOk, codes};
 ghost use Rattle.gs_rules.specs.declared.fallen.Fallen.TheVariants.{Broken, Graft, Request};
 ghost use Rattle.gs_trace.specs.Texts.{id_text, names_of};
@@ -32,7 +32,7 @@ fn push_fallen(plan: &Plan, out: &mut Vec<u8>, fallen: &Fallen) -> Result<(), Al
     }
 }
 
-/// Adds what came to nothing, and of which neighbour.
+/// Adds what had no effect, and the neighbour that sent or promised it.
 fn push_of(plan: &Plan, out: &mut Vec<u8>, word: &[u8], from: PeerNo) -> Result<(), AllocError>
     ensures { OnOk result (out.new.items ≡ out.old.items ++ fallen_of word.now (names_of plan.now) from) }
 {

@@ -8,7 +8,7 @@ use std::alloc::AllocError;
 /// Why a trace was not written to its end.
 #[derive(Clone, Copy, Debug, PartialEq, Eq)]
 pub enum TraceFault {
-    /// There was no memory for the next lines.
+    /// Memory ran out for the next lines.
     NoMemory,
     /// A write failed, or took nothing.
     WriteFailed,

@@ -1,4 +1,4 @@
-//! The first line of a trace: who the peers are, how long and how many the rounds are, and who dials whom.
+//! The first line of a trace: the names of the peers, the length and number of the rounds, and the dials.
 ghost use Rattle.std.specs.Prelude.{◌≡◌, ◌++◌, OnOk};
 ghost use Rattle.gs_trace.specs.Texts.{list_text, names_of, quoted};
 ghost use Rattle.gs_trace.specs.Lines.{dial_text, head_text};
@@ -25,14 +25,14 @@ pub(crate) fn push_head(plan: &Plan, out: &mut Vec<u8>) -> Result<(), AllocError
 /// Adds the names of all peers, as a list.
 ///
 /// # Errors
-/// `AllocError` where there was no memory for it. A part of it may be there then.
+/// `AllocError` when out of memory. A part of the text may have been added then.
 pub fn push_names(plan: &Plan, out: &mut Vec<u8>) -> Result<(), AllocError>
     ensures { OnOk result (out.new.items ≡ out.old.items ++ list_text quoted (names_of plan.now)) }
 {
     push_list(plan, out, plan.peers.as_slice())
 }
 
-/// Adds who dials whom.
+/// Adds the dials.
 fn push_dials(plan: &Plan, out: &mut Vec<u8>) -> Result<(), AllocError>
     ensures { OnOk result (out.new.items ≡ out.old.items ++ list_text (dial_text (names_of plan.now)) plan.now.dials) }
 {

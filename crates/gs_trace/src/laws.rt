@@ -1,5 +1,5 @@
-//! What the text of a trace tells, and what came to nothing. Each law holds of its definitions only, and its function does
-//! nothing.
+//! Laws about the text of a trace, and about what had no effect. Each law is only about its definitions, and its function
+//! does nothing.
 ghost use Rattle.std.specs.Prelude.{◌≡◌, ℕ, ◌+◌, List, [], ◌∷◌, length, map};
 ghost use Rattle.gs_base.specs.declared.mark.Mark.TheVariants.{Misbehaviour};
 ghost use Rattle.gs_base.specs.declared.names.Millis.{Millis as MillisValue};
@@ -25,8 +25,8 @@ ghost use Rattle.gs_trace.specs.Texts.{names_of};
 ghost use Rattle.gs_trace.specs.Traces.{IsReportOf, refusals_in, traces};
 ghost use Rattle.gs_trace.specs.Wanted.{no_wish, wanted_text};
 
-/// The text of a run's trace tells all of it. Two runs with one text have peers of the same names, the same rounds and
-/// the same dials, and there is the same to say of both. And each peer has the same trace in both.
+/// The text of a run's trace says everything about the run. If two runs have the same text, their peers have the same names,
+/// and their rounds and dials are the same. The same is said about both, and each peer has the same trace in both.
 pub fn a_trace_tells_all()
     ensures names { (p q : PlanValue) (r s : ReportValue)
         → IsReportOf p r
@@ -55,12 +55,12 @@ pub fn a_trace_tells_all()
         → traces r ≡ traces s }
 {}
 
-/// Where nothing is wished for, the text has all lines.
+/// If no option asks for certain lines, the text has all lines.
 pub fn wanting_all_tells_all()
     ensures { (p : PlanValue) (r : ReportValue) → wanted_text no_wish p r ≡ trace_text p r }
 {}
 
-/// Of each peer of a run the lines of the script that it refused are told, each once, in their order.
+/// For each peer of a run, the trace has the lines of the script that it refused, each once and in their order.
 pub fn each_refused_line_is_told_once()
     ensures { (p : PlanValue) (r : ReportValue)
         → IsInRange p
@@ -69,20 +69,19 @@ pub fn each_refused_line_is_told_once()
         ≡ map (λ (x : PeerNoValue × FinishedValue). x.1.refused) r.peers.items }
 {}
 
-/// The promises that came to nothing at a heartbeat are those for which it charges their makers, one by one.
+/// A heartbeat charges exactly the makers of the promises that are broken at it, once for each promise and in the same order.
 pub fn broken_promises_are_charged()
     ensures { (p : Peer) (L : Entries) (at : ℕ)
         → map (λ (x : PromiseValue). Misbehaviour x.from) (broken p L at) ≡ all_charges p L at }
 {}
 
-/// The messages for a request, and what came to nothing of it, are as many as its identifiers.
+/// The answers to a request and its identifiers without an answer are together as many as its identifiers.
 pub fn each_identifier_is_answered_or_told()
     ensures { (p : Peer) (L : Entries) (q : PeerNoValue) (ids : List MsgIdValue)
         → length (answers p L q [] ids) + length (without_answers p L q [] ids) ≡ length ids }
 {}
 
-/// The parts of an RPC that is heard must come next where nothing of it came to nothing, and nothing must where something
-/// did.
+/// If nothing falls away when an RPC is heard, its parts must come next. If something falls away, nothing must come next.
 pub fn what_came_to_nothing_owes_no_parts()
     ensures follow { (p : Peer) (L : Entries) (at : MillisValue) (q : PeerNoValue) (rpc : RpcValue)
         → fell_away p L at (Heard q rpc) ≡ []

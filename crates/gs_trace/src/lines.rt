@@ -33,13 +33,13 @@ struct Walk<'a> {
     peers: &'a [(PeerNo, Finished)],
 }
 
-/// Writes the trace of a run as JSON Lines (docs/FORMATS.md has each field). First it says who the peers are. Then comes
-/// a line for each entry, by round, then by peer, then in order; the lines of the script that a peer refused in a round
-/// come after its entries. Of these lines it writes those that are wanted. Some 64 KiB of lines wait at most, and one
-/// line more. In each trace no entry may be earlier than the one before it.
+/// Writes the trace of a run as JSON Lines (docs/FORMATS.md has each field). The first line says who the peers are. Then
+/// comes a line for each entry, by round, then by peer, then in order. The lines of the script that a peer refused in a
+/// round come after its entries. Of these lines it writes those that are wanted. At most about 64 KiB of lines wait to be
+/// written, and one line more. In each trace no entry may be earlier than the one before it.
 ///
 /// # Errors
-/// One where there was no memory, or a write failed. A front of the text has then been written.
+/// `TraceFault` when out of memory, or if a write failed. A front of the text has then been written.
 pub fn write_trace<W: Write>(
     alloc: Global,
     plan: &Plan,
@@ -86,7 +86,7 @@ fn write_rounds<W: Write>(
     write_round(walk, walk.plan.rounds, readers, page, output)
 }
 
-/// Writes the lines of a round, at whose beginning the readers stand. After it they stand at that of the next one.
+/// Writes the lines of a round. The readers stand at its beginning, and after it at the beginning of the next round.
 fn write_round<W: Write>(
     walk: &Walk<'_>,
     round: u64,
@@ -115,8 +115,8 @@ fn write_round<W: Write>(
     Ok(())
 }
 
-/// Writes the lines of a peer's turn. The reader of its trace stands at the beginning of the round, and after it at that of
-/// the next one.
+/// Writes the lines of a peer's turn. The reader of its trace stands at the beginning of the round, and after it at the
+/// beginning of the next one.
 fn write_turn<W: Write>(
     turn: &Turn<'_>,
     life: &Finished,

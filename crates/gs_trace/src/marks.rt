@@ -1,4 +1,4 @@
-//! What a peer remembers of an event as objects.
+//! What a peer remembers about an event, as JSON objects.
 ghost use Rattle.std.specs.Prelude.{◌≡◌, ◌++◌, OnOk, codes, decimal};
 ghost use Rattle.gs_base.specs.declared.mark.Mark.TheVariants.{Answered, Asked, Backoff, Cached, Deficit, Published, Seen};
 ghost use Rattle.gs_trace.specs.Texts.{id_text, names_of};

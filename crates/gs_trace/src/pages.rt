@@ -16,15 +16,15 @@ const PAGE_SIZE: usize = 65_536;
 
 /// What a peer's turn has a line for.
 pub(crate) trait Told {
-    /// Its line, and nothing where that is not wanted.
+    /// Its line, or nothing if that is not wanted.
     ghost line: { TurnValue → Self → List ℕ };
 
-    /// Adds its line, if that is wanted. After an error a part of it may be there.
+    /// Adds its line, if that is wanted. After an error the page may have a part of it.
     fn push(&self, turn: &Turn<'_>, page: &mut Vec<u8>) -> Result<(), AllocError>
         ensures { OnOk result (page.new.items ≡ page.old.items ++ line turn.now self.now) };
 }
 
-/// Adds the lines of these, and writes the page each time that it is full.
+/// Adds the lines of these values, and writes the page each time it is full.
 pub(crate) fn write_lines<T: Told, W: Write>(
     turn: &Turn<'_>,
     all: &[T],
@@ -43,10 +43,10 @@ pub(crate) fn write_lines<T: Told, W: Write>(
     Ok(())
 }
 
-/// Writes a page that is full, and clears it: one that has 65,536 bytes or more.
+/// Writes and clears a page that is full. A page is full if it has 65,536 bytes or more.
 ///
 /// # Errors
-/// `WriteFailed` where a write failed, or took nothing. A front of the page has then been written.
+/// `WriteFailed` if a write failed or took nothing. A front of the page has then been written.
 pub fn write_full<W: Write>(page: &mut Vec<u8>, output: &mut W) -> Result<(), WriteFailed>
     ensures added { OnOk result (Adds [] page.old.items page.new.items (W.contents output.old) (W.contents output.new)) }
     ensures short { OnOk result (length page.new.items < 65_536) }
@@ -58,10 +58,10 @@ pub fn write_full<W: Write>(page: &mut Vec<u8>, output: &mut W) -> Result<(), Wr
     write_page(page, output)
 }
 
-/// Writes a page, and clears it.
+/// Writes and clears a page.
 ///
 /// # Errors
-/// `WriteFailed` where a write failed, or took nothing. A front of the page has then been written.
+/// `WriteFailed` if a write failed or took nothing. A front of the page has then been written.
 pub fn write_page<W: Write>(page: &mut Vec<u8>, output: &mut W) -> Result<(), WriteFailed>
     ensures added { OnOk result (Adds [] page.old.items page.new.items (W.contents output.old) (W.contents output.new)) }
     ensures clear { OnOk result (page.new.items ≡ []) }

@@ -1,4 +1,4 @@
-//! Readers of the traces of a run, which say what came to nothing at each entry.
+//! Readers of the traces of a run. They say what had no effect at each entry.
 ghost use Rattle.std.specs.Prelude.{◌≡◌, true, false, IfOk};
 ghost use Rattle.std.specs.List.{AllByRecursion};
 ghost use Rattle.gs_base.specs.declared.names.PeerNo.{PeerNo as PeerNoValue};
@@ -16,7 +16,7 @@ use gs_rules::Event;
 use gs_seats::follower_of;
 use std::alloc::{AllocError, Global};
 
-/// A reader of each peer's trace, which has seen none of its entries.
+/// Returns a reader of each peer's trace that has seen none of its entries.
 pub(crate) fn readers_of<'a>(
     alloc: Global,
     plan: &Plan,
@@ -48,7 +48,7 @@ fn reader_of<'a>(
     Ok(reader)
 }
 
-/// Sees the entries of a round: those up to its end, and in the last round all that are left.
+/// Reads the entries of a round: those up to its end, or in the last round all that are left.
 pub(crate) fn entries_of_round<'a>(
     alloc: Global,
     reader: &mut Follower<'a>,

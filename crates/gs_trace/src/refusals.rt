@@ -1,4 +1,4 @@
-//! The line of a line of the script that a peer refused.
+//! The trace's line for a line of the script that a peer refused.
 ghost use Rattle.std.specs.Prelude.{◌≡◌, ◌++◌, decimal, OnOk};
 ghost use Rattle.gs_rules.specs.Refusals.{number_of};
 ghost use Rattle.gs_report.specs.Text.{word_of};
@@ -39,7 +39,7 @@ fn is_refused_in(round_ms: u64, round: u64, refusal: RefusedLine) -> bool
     }
 }
 
-/// Adds the line of a line of the script that was refused.
+/// Adds the trace's line for a line of the script that was refused.
 fn push_refusal(turn: &Turn<'_>, out: &mut Vec<u8>, refusal: RefusedLine) -> Result<(), AllocError>
     ensures { OnOk result (out.new.items
         ≡ out.old.items ++ line_text turn.now.plan.now (Refused turn.now.round turn.now.peer refusal)) }

@@ -1,10 +1,10 @@
-//! Rounds from one to another, as an argument spells them: `A..B`.
+//! Rounds from a first to a last one, as an argument spells them: `A..B`.
 ghost use Rattle.std.specs.Prelude.{◌≡◌};
 ghost use Rattle.gs_trace.specs.Spans.{after_byte, first_of, in_order, last_of, rounds_in, with_digit};
 
 use crate::wanted::RoundSpan;
 
-/// What was read of `A..B`.
+/// What was read so far of `A..B`.
 #[derive(Clone, Copy, Debug)]
 enum Reading {
     Nothing,
@@ -18,7 +18,8 @@ enum Reading {
     Last(u64, u64),
 }
 
-/// The rounds that a text spells: two decimal numbers with two dots between them, the first at most the last.
+/// Returns the rounds that a text spells, or `None` if it spells none. It has two decimal numbers with two dots between
+/// them, and the first is at most the last.
 pub fn rounds_in(text: &[u8]) -> Option<RoundSpan>
     ensures { result ≡ rounds_in text.now }
 {
@@ -29,7 +30,7 @@ pub fn rounds_in(text: &[u8]) -> Option<RoundSpan>
     in_order(reading)
 }
 
-/// The rounds that were read, where both numbers were and are in order.
+/// The rounds that were read, if both numbers were read and the first is at most the last.
 fn in_order(reading: Reading) -> Option<RoundSpan>
     ensures { result ≡ in_order reading }
 {
@@ -47,7 +48,7 @@ fn in_order(reading: Reading) -> Option<RoundSpan>
     }
 }
 
-/// What was read with one byte more.
+/// What was read after one more byte.
 fn after_byte(reading: Reading, byte: u8) -> Option<Reading>
     ensures { result ≡ after_byte reading byte }
 {
@@ -88,7 +89,7 @@ fn last_of(first: u64, number: Option<u64>) -> Option<Reading>
     }
 }
 
-/// A number with one decimal digit more, where the byte is one and the number fits.
+/// A number with one more decimal digit, if the byte is a digit and the number fits.
 fn with_digit(number: u64, byte: u8) -> Option<u64>
     ensures { result ≡ with_digit number byte }
 {

@@ -8,7 +8,7 @@ use gs_base::{Millis, MsgId, PeerNo, Seq, Shared, Topic};
 use gs_plan::Plan;
 use std::alloc::AllocError;
 
-/// What is shown as JSON, over the names of a plan's peers.
+/// A value that is shown as JSON. Its peers have the names that a plan gives them.
 pub trait Shown {
     /// Its text.
     ghost text: { List (List ℕ) → Self → List ℕ };
@@ -16,7 +16,7 @@ pub trait Shown {
     /// Adds its text.
     ///
     /// # Errors
-    /// `AllocError` where there was no memory for it. A part of it may be there then.
+    /// `AllocError` when out of memory. A part of the text may have been added then.
     fn push(&self, plan: &Plan, out: &mut Vec<u8>) -> Result<(), AllocError>
         ensures { OnOk result (out.new.items ≡ out.old.items ++ text (names_of plan.now) self.now) };
 }
@@ -110,30 +110,30 @@ impl<T: Shown + Drop> Shown for Shared<T> {
     }
 }
 
-/// Adds a peer by its name in quotes, and by its number where the plan has no such peer.
+/// Adds the name of a peer in quotes, or its number if the plan has no such peer.
 ///
 /// # Errors
-/// `AllocError` where there was no memory for it. A part of it may be there then.
+/// `AllocError` when out of memory. A part of the text may have been added then.
 pub fn push_peer(plan: &Plan, out: &mut Vec<u8>, peer: PeerNo) -> Result<(), AllocError>
     ensures { OnOk result (out.new.items ≡ out.old.items ++ peer_text (names_of plan.now) peer) }
 {
     peer.push(plan, out)
 }
 
-/// Adds a text as it is.
+/// Adds a text unchanged.
 ///
 /// # Errors
-/// `AllocError` where there was no memory for it. A part of it may be there then.
+/// `AllocError` when out of memory. A part of the text may have been added then.
 pub fn push_code(out: &mut Vec<u8>, code: &[u8]) -> Result<(), AllocError>
     ensures { OnOk result (out.new.items ≡ out.old.items ++ code.now) }
 {
     out.extend_from_slice(code)
 }
 
-/// Adds values as a list.
+/// Adds values as a JSON list.
 ///
 /// # Errors
-/// `AllocError` where there was no memory for it. A part of it may be there then.
+/// `AllocError` when out of memory. A part of the text may have been added then.
 pub fn push_list<T: Shown>(plan: &Plan, out: &mut Vec<u8>, values: &[T]) -> Result<(), AllocError>
     ensures { OnOk result (out.new.items ≡ out.old.items ++ list_text (T.text (names_of plan.now)) values.now) }
 {
@@ -165,7 +165,7 @@ fn push_next<T: Shown>(plan: &Plan, out: &mut Vec<u8>, value: &T) -> Result<(), 
 /// Adds a whole number.
 ///
 /// # Errors
-/// `AllocError` where there was no memory for it. A part of it may be there then.
+/// `AllocError` when out of memory. A part of the text may have been added then.
 pub fn push_number(out: &mut Vec<u8>, number: u64) -> Result<(), AllocError>
     ensures { OnOk result (out.new.items ≡ out.old.items ++ decimal number) }
 {
@@ -203,7 +203,7 @@ pub(crate) fn push_hex(out: &mut Vec<u8>, bytes: &[u8]) -> Result<(), AllocError
 /// Adds bytes as a text in quotes.
 ///
 /// # Errors
-/// `AllocError` where there was no memory for it. A part of it may be there then.
+/// `AllocError` when out of memory. A part of the text may have been added then.
 pub fn push_quoted(out: &mut Vec<u8>, bytes: &[u8]) -> Result<(), AllocError>
     ensures { OnOk result (out.new.items ≡ out.old.items ++ quoted bytes.now) }
 {

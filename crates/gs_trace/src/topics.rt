@@ -10,9 +10,9 @@ use gs_base::{
 use gs_plan::{Act, Plan};
 use gs_rules::{BeatStep, Event, RpcPart, StoredEntry};
 
-/// What may name topics.
+/// A value that may name topics.
 trait Names {
-    /// Whether it names the one of these bytes.
+    /// Whether it names the topic that has these bytes.
     ghost named: { List ℕ → Self → Bool };
 
     fn names(&self, topic: &[u8]) -> bool
@@ -155,7 +155,7 @@ impl Names for (Topic, Bytes) {
     }
 }
 
-/// Whether an RPC that others may have, too, names a topic.
+/// Whether an RPC that others may share names a topic.
 fn shared_names(rpc: &Shared<Rpc>, topic: &[u8]) -> bool
     ensures { result ≡ rpc_names topic.now rpc.now }
 {

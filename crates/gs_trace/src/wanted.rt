@@ -14,20 +14,20 @@ use gs_report::name_of;
 use gs_router::Followed;
 use gs_rules::{RefusedLine, StoredEntry};
 
-/// Which lines of a trace are wanted, beside the first one: those that fulfil each of these wishes.
+/// Which lines of a trace are wanted. The first line always is, and so are the lines that match all of these options.
 #[derive(Clone, Copy, Debug, Drop)]
 pub struct Wanted<'a> {
-    /// Lines of the peer of this name.
+    /// Lines of the peer with this name.
     pub peer: Wish<'a>,
-    /// Lines that name this topic: in the event, in an RPC that was sent, in a delivery or in a mark.
+    /// Lines that name this topic in the event, in an RPC that was sent, in a delivery or in a mark.
     pub topic: Wish<'a>,
     /// Lines of these rounds.
     pub rounds: Option<RoundSpan>,
-    /// Lines of the events of these words, which have commas between them.
+    /// Lines whose event has one of these words. The words have commas between them.
     pub events: Wish<'a>,
 }
 
-/// A text that is wished for.
+/// The text that an option asks for.
 #[derive(Clone, Copy, Debug, Drop)]
 pub enum Wish<'a> {
     /// Any text will do.
@@ -36,16 +36,16 @@ pub enum Wish<'a> {
     Only(&'a str),
 }
 
-/// Rounds from one to another, with both.
+/// Rounds from a first to a last one, both included.
 #[derive(Clone, Copy, Debug, PartialEq, Eq)]
 pub struct RoundSpan {
     /// The first one. The first round of a run is 0.
     pub first: u64,
-    /// The last one. Where it is below the first, no round is among them.
+    /// The last one. If it is below the first, the span has no round.
     pub last: u64,
 }
 
-/// What wants all lines.
+/// Returns the options that ask for all lines.
 pub fn all_lines<'a>() -> Wanted<'a>
     ensures { wishes_of result ≡ no_wish }
 {
@@ -65,7 +65,7 @@ pub(crate) fn is_entry_wanted(turn: &Turn<'_>, followed: &Followed<'_>) -> bool
     is_of(turn) && tells(turn.wanted, followed.entry)
 }
 
-/// Whether the line of a refused line of the script is wanted.
+/// Whether the trace's line for a refused line of the script is wanted.
 pub(crate) fn is_refusal_wanted(turn: &Turn<'_>, refusal: RefusedLine) -> bool
     ensures { result ≡ is_wanted (wishes_of turn.now.wanted.now) turn.now.plan.now
         (Refused turn.now.round turn.now.peer refusal) }
@@ -142,7 +142,7 @@ fn is_event(wanted: &Wanted<'_>, word: &[u8]) -> bool
     }
 }
 
-/// Whether a word is one of those in a text, which have commas between them.
+/// Whether a word is one of those in a text. The words have commas between them.
 fn is_among(word: &[u8], words: &str) -> bool
     ensures { result ≡ is_among word.now words.now }
 {

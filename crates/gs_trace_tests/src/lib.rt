@@ -1,4 +1,4 @@
-//! The lines of traces. A crate is proved once more with its own tests, so these stand apart from what they call.
+//! The lines of traces. A crate is proved again with its own tests, so these are in a crate of their own.
 #![tactic(auto)]
 
 #[cfg(test)]

@@ -1,4 +1,4 @@
-//! Runs of the peers `a` and `b`, and how their traces are told.
+//! Runs of the peers `a` and `b`, and the texts of their traces.
 ghost use Rattle.gs_plan.specs.Plans.{IsInRange};
 
 mod events;
@@ -34,7 +34,7 @@ fn finished(
     })
 }
 
-/// What is written of a run, where the entries of each trace are in order.
+/// What is written about a run, if the entries of each trace are in order.
 fn text_of(
     alloc: Global,
     plan: &Plan,
@@ -53,7 +53,7 @@ fn text_of(
     }
 }
 
-/// Whether the trace of a run is told by the first line and this.
+/// Whether the trace of a run consists of the first line and these lines.
 fn is_told(alloc: Global, report: &Report, lines: &[u8]) -> Result<bool, AllocError> {
     let told = text_of(alloc, &plan(alloc)?, report, &all_lines())?;
     let mut text = Vec::new(alloc);
@@ -62,7 +62,7 @@ fn is_told(alloc: Global, report: &Report, lines: &[u8]) -> Result<bool, AllocEr
     Ok(told == text)
 }
 
-/// Whether peer `a` with one entry at 7 is told by this line.
+/// Whether the trace has this line if peer `a` has one entry at 7.
 fn is_entry(
     alloc: Global,
     event: Event,
@@ -84,7 +84,7 @@ fn is_entry(
     is_told(alloc, &report, line)
 }
 
-/// The line of an event about which nothing is done, and at which this came to nothing.
+/// The line of an event without effects, with what came to nothing at it.
 fn event_line(alloc: Global, members: &str, fallen: &str) -> Result<Vec<u8>, AllocError> {
     let mut line = Vec::new(alloc);
     line.extend_from_slice(b"{\"round\":0,\"at\":7,\"peer\":\"a\",")?;
@@ -97,13 +97,13 @@ fn event_line(alloc: Global, members: &str, fallen: &str) -> Result<Vec<u8>, All
     Ok(line)
 }
 
-/// Whether an event is told by these members, and what came to nothing at it by these objects.
+/// Whether an event has these members in its line, and these objects for what came to nothing at it.
 fn is_event(alloc: Global, event: Event, members: &str, fallen: &str) -> Result<bool, AllocError> {
     let line = event_line(alloc, members, fallen)?;
     is_entry(alloc, event, Effects::none(alloc), &line)
 }
 
-/// Whether marks are told by these objects.
+/// Whether marks are written as these objects.
 fn are_marks(alloc: Global, marks: Seq<Mark>, objects: &str) -> Result<bool, AllocError> {
     let mut line = Vec::new(alloc);
     line.extend_from_slice(

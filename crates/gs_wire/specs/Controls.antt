@@ -23,7 +23,7 @@ SaysIWant rs v = v ≡ record { ids = len_values 1 rs }
 abbrev pub SaysGraft : List Record → Graft → Type 0
 SaysGraft rs v = v ≡ record { topic = topic_of 1 rs }
 
--- The peers that are offered in exchange aren't looked into.
+-- Nothing is said about the peers for peer exchange, which are skipped.
 abbrev pub SaysPrune : List Record → Prune → Type 0
 SaysPrune rs v = v ≡ record { topic = topic_of 1 rs; backoff = number_of 3 rs }
 
@@ -40,8 +40,8 @@ no_control = record { ihave = []; iwant = []; graft = []; prune = [] }
 abbrev pub joined : List (List Record) → List Record
 joined lists = flat_map (λ rs. rs) lists
 
--- The control of an RPC, by the values of its field: absent where there are none. Each value spells records by itself,
--- and all of those, joined, say the control.
+-- The control of an RPC, by the values of its field. It is absent where there are no values. Each value spells records by
+-- itself. All those records, joined, say the control.
 abbrev pub SaysMerged : List (List ℕ) → Option Control → Type 0
 SaysMerged [] control = control ≡ None
 SaysMerged (bytes ∷ more) control =
@@ -71,7 +71,7 @@ control_records v =
     ++ part_records graft_records 3 v.graft
     ++ part_records prune_records 4 v.prune
 
--- ---- several that are joined
+-- ---- joined control messages
 
 -- what two say, list by list
 abbrev pub joined_control : Control → Control → Control
@@ -82,7 +82,7 @@ joined_control c d = record {
   prune = c.prune ++ d.prune;
 }
 
--- what all of these say, list by list, where each has an RPC
+-- what all of these say, list by list; each of them has an RPC
 abbrev pub all_control : {A : Type 0} → (A → Rpc) → List A → Control
 all_control rpc_of xs = record {
   ihave = flat_map (λ x. offers_in (rpc_of x).control) xs;

@@ -1,4 +1,4 @@
--- Values as lists of records: how a field is read off records, and how it is written as records.
+-- Values as lists of records: how a field is read from records, and how it is written as records.
 use Rattle.std.specs.Prelude.{ℕ, Bool, true, false, not, ◌==◌, List, [], ◌∷◌, map, Option, Some, None, option_map}
 use Rattle.gs_base.specs.declared.names.Topic.{Topic}
 use Rattle.gs_wire.specs.Records.{Record, Varint, Len, SpellRecords, varint_values, len_values, last, records_text}
@@ -7,7 +7,7 @@ use Rattle.gs_wire.specs.Records.{Record, Varint, Len, SpellRecords, varint_valu
 abbrev pub Spells : {V : Type 0} → (List Record → V → Type 0) → List ℕ → V → Type 0
 Spells Says bytes v = (rs : List Record) × SpellRecords bytes rs × Says rs v
 
--- ---- what records say: of a field that isn't repeated the last value stands
+-- ---- what records say: for a field that isn't repeated, the last value is used
 
 abbrev pub bytes_of : ℕ → List Record → Option (List ℕ)
 bytes_of field rs = last (len_values field rs)

@@ -1,11 +1,11 @@
--- RPCs that are gathered to go out as one.
+-- RPCs that are gathered, so that they go out as one.
 use Rattle.std.specs.Prelude.{◌≡◌, ℕ, ◌≤◌, length, Option, unwrap_or}
 use Rattle.gs_base.specs.declared.rpc.Rpc.{Rpc}
 use Rattle.gs_base.specs.Rpcs.{empty_rpc}
 use Rattle.gs_wire.specs.Messages.{body, longest_body}
 use Rattle.gs_wire.specs.Sections.{control_length, plain_length}
 
--- all that was gathered as one RPC, which says nothing where nothing was
+-- everything that was gathered as one RPC, which says nothing where nothing was gathered
 abbrev pub as_one : Option Rpc → Rpc
 as_one held = unwrap_or held empty_rpc
 

@@ -20,7 +20,7 @@ varint_at_most (suc k) (b ∷ bytes) =
 unfoldable pub varint_at : List ℕ → Option (ℕ × List ℕ)
 varint_at bytes = varint_at_most 10 bytes
 
--- the next n bytes, and nothing where fewer are left
+-- the next n bytes, or nothing where fewer are left
 abbrev pub bytes_at : ℕ → List ℕ → Option (List ℕ × List ℕ)
 bytes_at n bytes = if nat_lt (length bytes) n then None else Some (take n bytes, drop n bytes)
 

@@ -28,7 +28,7 @@ pub record Record : Type 0 where
   pub field : ℕ
   pub value : Value
 
--- the tag of a record: its field number and its wire type in one number
+-- the tag of a record, which is its field number and its wire type in one number
 abbrev pub tag_of : Record → ℕ
 tag_of r = 8 * r.field + wire_type r.value
 
@@ -52,7 +52,7 @@ SpellRecords text (r ∷ rs) =
 
 -- ---- the values of one field
 
--- what a value holds, where it has the wire type and its field is the one that is wanted
+-- what a value holds, where it has the wire type and its field is the wanted one
 abbrev pub varint_in : ℕ → ℕ → Value → Option ℕ
 varint_in wanted field (Varint n) = if field == wanted then Some n else None
 varint_in wanted field _ = None
@@ -68,12 +68,12 @@ varint_values wanted rs = filter_map (λ r. varint_in wanted r.field r.value) rs
 abbrev pub len_values : ℕ → List Record → List (List ℕ)
 len_values wanted rs = filter_map (λ r. len_in wanted r.field r.value) rs
 
--- the last of a list, or this where there is none
+-- the last element of a list, or this value where there is none
 abbrev pub last_or : {A : Type 0} → Option A → List A → Option A
 last_or found [] = found
 last_or found (x ∷ xs) = last_or (Some x) xs
 
--- of a field that isn't repeated the last value stands
+-- for a field that isn't repeated, the last value is used
 abbrev pub last : {A : Type 0} → List A → Option A
 last xs = last_or None xs
 

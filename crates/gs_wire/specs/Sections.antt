@@ -1,5 +1,5 @@
--- The sections of a body, and where they stand in a frame. A section is the records of one field, of an RPC or of its
--- control messages.
+-- The sections of a body, and where they stand in a frame. A section is the records of one field. The field is one of an RPC
+-- or of its control messages.
 use Rattle.std.specs.Prelude.{◌≡◌, ℕ, ◌+◌, ◌≤◌, List, ◌++◌, length, Option, min, option_map, option_to_list, unwrap_or}
 use Rattle.gs_base.specs.declared.control.Control.{Control}
 use Rattle.gs_base.specs.declared.rpc.Rpc.{Rpc}
@@ -15,7 +15,7 @@ use Rattle.gs_wire.specs.Messages.{body, frame, longest_body, message_records, s
 
 -- ---- what is written
 
--- the control messages of an RPC, which has none where they are absent
+-- the control messages of an RPC; they are empty where they are absent
 abbrev pub control_of : Rpc → Control
 control_of v = unwrap_or v.control no_control
 
@@ -28,7 +28,7 @@ section Requests v = records_text (part_records iwant_records 2 (control_of v).i
 section Grafts v = records_text (part_records graft_records 3 (control_of v).graft)
 section Prunes v = records_text (part_records prune_records 4 (control_of v).prune)
 
--- the length of what an RPC says outside of its control messages
+-- the length of everything that an RPC says outside of its control messages
 abbrev pub plain_length : Rpc → ℕ
 plain_length v = length (section Subscriptions v ++ section Messages v)
 
@@ -36,7 +36,7 @@ plain_length v = length (section Subscriptions v ++ section Messages v)
 abbrev pub control_length : Rpc → Option ℕ
 control_length v = option_map (λ c. length (records_text (control_records c))) v.control
 
--- the length of control messages up to this one, where there are some
+-- the length of control messages, where there are some, and this number where that is smaller
 abbrev pub control_length_within : ℕ → Option Control → Option ℕ
 control_length_within most o = option_map (λ c. min most (length (records_text (control_records c)))) o
 

@@ -1,4 +1,4 @@
--- Streams of frames: a varint length, and then that many bytes of a body. A stream is described as a whole, so it
+-- Streams of frames. A frame is a varint length, and then a body of this length. A stream is described as a whole, so it
 -- doesn't matter how it was cut into pieces.
 use Rattle.std.specs.Prelude.{◌≡◌, ℕ, ◌-◌, ◌<◌, ◌≤◌, Bool, false, List, [], ◌∷◌, ◌++◌, length, drop, Option, Some, None, IfSome, IsSome, ◌⊎◌, ◌↔◌, Result, Err, OnOk, IsErrOf}
 use Rattle.std.specs.List.{AllByRecursion}
@@ -39,8 +39,8 @@ pub record HasLength (bytes : List ℕ) (n : ℕ) (rest : List ℕ) : Type 0 whe
 abbrev pub BeginsLength : List ℕ → Type 0
 BeginsLength bytes = (length bytes < 10) × AllByRecursion (λ b. 128 ≤ b) bytes
 
--- How a stream goes on after its whole frames: it waits for more of a frame, a length is above the limit, or no length
--- or no RPC stands there.
+-- How a stream goes on after its whole frames. It waits for more of a frame, or a length is above the limit, or no length or
+-- no RPC stands there.
 abbrev pub GoesOn : ℕ → List ℕ → End → Type 0
 GoesOn limit rest ends.Waits = BeginsLength rest
     ⊎ ((n : ℕ) × (more : List ℕ) × HasLength rest n more × (n ≤ limit) × (length more < n))
@@ -49,14 +49,14 @@ GoesOn limit rest ends.Malformed = (¬ (BeginsLength rest) × ((n : ℕ) (more :
     ⊎ ((body : List ℕ) × (more : List ℕ) × HasLength rest (length body) (body ++ more)
     × (length body ≤ limit) × ((v : Rpc) → ¬ (SpellsRpc body v)))
 
--- The stream is the frames of these RPCs, and then the rest, which goes on so.
+-- The stream is the frames of these RPCs, and then the rest, which goes on as `end` says.
 pub record IsStream (limit : ℕ) (bytes : List ℕ) (vs : List Rpc) (rest : List ℕ) (end : End) : Type 0 where
   pub front : List ℕ
   pub parts : bytes ≡ front ++ rest
   pub frames : SpellFrames limit front vs
   pub goes_on : GoesOn limit rest end
 
--- The length at the front says that the body stands from start to end. Its bytes may have come or not.
+-- The length at the front says that the body stands from start to end. The bytes of the body may have come or not.
 pub record IsSpan (limit : ℕ) (bytes : List ℕ) (start end : ℕ) : Type 0 where
   pub begun : start ≤ length bytes
   pub ordered : start ≤ end
@@ -65,19 +65,19 @@ pub record IsSpan (limit : ℕ) (bytes : List ℕ) (start end : ℕ) : Type 0 wh
 
 -- ---- a reader
 
--- How many bytes of the frame at the front have not come, where its length is known, else none.
+-- How many bytes of the frame at the front have not come. It is 0 where the length of that frame is not known.
 abbrev pub missing_of : Option Span → ℕ → ℕ
 missing_of None held = 0
 missing_of (Some span) held = span.end - held
 
--- What a reader keeps of the length at the front of what it holds. After a fault there is none.
+-- What a reader keeps of the length at the front of the bytes that it holds. After a fault it keeps none.
 pub record AwaitsBody (limit : ℕ) (held : List ℕ) (next : Option Span) (missing : ℕ) (failed : Bool) : Type 0 where
   pub low : limit ≤ longest_body
   pub right : IfSome next (λ span. IsSpan limit held span.start span.end)
   pub counted : missing ≡ missing_of next (length held)
   pub sound : IsSome next → failed ≡ false
 
--- What a reader holds: the bytes of an unfinished frame, or nothing any more after a fault.
+-- What a reader holds: the bytes of an unfinished frame, or nothing after a fault.
 pub record Holding : Type 0 where
   pub limit : ℕ
   pub held : Option (List ℕ)
@@ -87,7 +87,7 @@ held_after ends.Waits rest = Some rest
 held_after ends.TooLong rest = None
 held_after ends.Malformed rest = None
 
--- A feed of the piece adds the RPCs of what was held and the piece, as one stream that goes on so.
+-- A feed of the piece adds the RPCs of one stream, which is what was held and then the piece. It goes on as `end` says.
 pub record Feeds (old : Holding) (piece : List ℕ) (new : Holding) (before after : List Rpc) (end : End) : Type 0 where
   pub held : List ℕ
   pub was_held : old.held ≡ Some held
@@ -97,8 +97,8 @@ pub record Feeds (old : Holding) (piece : List ℕ) (new : Holding) (before afte
   pub added : after ≡ before ++ found
   pub keeps : new ≡ record { limit = old.limit; held = held_after end rest }
 
--- How a feed of the piece ends, by its result. What it adds before a fault of the stream stays added; where it failed
--- before, or there was no memory, nothing changes.
+-- How a feed of the piece ends, by its result. RPCs that were added before a fault of the stream stay added. If the reader
+-- failed before, or was out of memory, nothing changes.
 pub record EndsFeed (old : Holding) (piece : List ℕ) (new : Holding) (before after : List Rpc)
     (result : Result (Unit {0}) WireFault) : Type 0 where
   pub fed : OnOk result (Feeds old piece new before after ends.Waits)
@@ -110,8 +110,8 @@ pub record EndsFeed (old : Holding) (piece : List ℕ) (new : Holding) (before a
   pub no_memory_reader : result ≡ Err faults.NoMemory → new ≡ old
   pub no_memory_list : result ≡ Err faults.NoMemory → after ≡ before
 
--- What a reader that held these bytes finds in the pieces that it is fed in turn, and how the last one ended.
--- After a fault nothing more is found.
+-- What a reader that held these bytes finds in the pieces that it is fed, one after the other, and how the last feed ended.
+-- After a fault it finds nothing more.
 abbrev pub FindsAfter : End → Type 0 → List Rpc → End → Type 0
 FindsAfter ends.Waits later more end = later
 FindsAfter ends.TooLong later more end = (more ≡ []) × (end ≡ ends.TooLong)
@@ -125,13 +125,14 @@ FindsIn limit held (piece ∷ pieces) vs end =
     × (vs ≡ found ++ more)
     × FindsAfter first (FindsIn limit rest pieces more end) more end
 
--- One call of a feed, and what it adds: what was held and the piece are read on. After a fault it changes nothing.
+-- One call of a feed, and what it adds: the reader reads what was held and then the piece. After a fault the call changes
+-- nothing.
 abbrev pub FeedsOnce : Holding → List ℕ → Holding → List Rpc → Type 0
 FeedsOnce old piece new found =
     ((end : End) × Feeds old piece new [] found end)
     ⊎ ((old.held ≡ None) × (new ≡ old) × (found ≡ []))
 
--- Feeds of pieces in turn, and all that they add.
+-- Feeds of pieces, one after the other, and everything that they add.
 abbrev pub FeedsAll : Holding → List (List ℕ) → Holding → List Rpc → Type 0
 FeedsAll old [] new vs = (new ≡ old) × (vs ≡ [])
 FeedsAll old (piece ∷ pieces) new vs =
@@ -140,8 +141,8 @@ FeedsAll old (piece ∷ pieces) new vs =
     × FeedsAll middle pieces new more
     × (vs ≡ found ++ more)
 
--- A reader that was fed these bytes has found the RPCs of the stream that they are, and holds its unread end;
--- after a fault it holds nothing.
+-- A reader that was fed these bytes has found the RPCs of their stream, and holds the unread end. After a fault it holds
+-- nothing.
 pub record HasRead (limit : ℕ) (bytes : List ℕ) (reader : Holding) (vs : List Rpc) : Type 0 where
   pub rest : List ℕ
   pub end : End

@@ -9,13 +9,13 @@ AreGroups (b ∷ c ∷ bytes) n =
     (128 ≤ b) × (b < 256)
     × ((high : ℕ) × (n + 128 ≡ b + 128 * high) × AreGroups (c ∷ bytes) high)
 
--- The bytes are one of the spellings of a number: there are several, since the last groups may be zero.
+-- The bytes are a spelling of a number. There are several, since the last groups may be zero.
 pub record IsVarint (bytes : List ℕ) (n : ℕ) : Type 0 where
   pub groups : AreGroups bytes n
   pub at_most_ten : length bytes ≤ 10
   pub below : n < 2 ^ 64
 
--- the groups of a number, whose last isn't zero, where there are at most this many and one more
+-- the groups of a number, as few as it needs, but at most one more than this many
 unfoldable pub varint_within : ℕ → ℕ → List ℕ
 varint_within zero n = n ∷ []
 varint_within (suc k) n = if nat_lt n 128 then n ∷ [] else (128 + n % 128) ∷ varint_within k (n / 128)

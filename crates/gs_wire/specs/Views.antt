@@ -1,4 +1,4 @@
--- Records without where they lie in memory.
+-- Records without their places in memory.
 use Rattle.gs_wire.specs.declared.record.Value.{Value as Stored}
 use Rattle.gs_wire.specs.declared.record.Value.TheVariants as stored
 use Rattle.gs_wire.specs.declared.record.Record.{Record as StoredRecord}

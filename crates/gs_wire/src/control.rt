@@ -34,7 +34,7 @@ const GRAFT_TOPIC: u64 = 1;
 
 /// `ControlPrune.topicID`.
 const PRUNE_TOPIC: u64 = 1;
-/// `ControlPrune.backoff`, in seconds. Its field 2, peers in exchange, is skipped.
+/// `ControlPrune.backoff`, in seconds. Field 2 of `ControlPrune`, the peers for peer exchange, is skipped.
 const PRUNE_BACKOFF: u64 = 3;
 
 impl Decode for Control {

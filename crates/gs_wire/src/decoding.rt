@@ -1,4 +1,4 @@
-//! Messages from records: each record is merged into the message as it is read.
+//! Messages from records: each record is merged into the message when it is read.
 ghost use Rattle.std.specs.Prelude.{◌≡◌, List, [], ◌∷◌, ◌++◌, OnOk, IsErrOf};
 ghost use Rattle.gs_wire.specs.Records.{Record as Spelled, SpellRecords};
 ghost use Rattle.gs_wire.specs.Fields.{Spells};
@@ -27,16 +27,16 @@ impl From<AllocError> for DecodeError {
     }
 }
 
-/// A message that records say.
+/// A message that is read from records.
 pub(crate) trait Decode: Drop {
     /// The records say the value.
     ghost says: { List Spelled → Self → Type 0 };
 
-    /// The message that no records say.
+    /// Returns the message of an empty list of records.
     fn empty(alloc: Global) -> Self
         ensures { says [] result };
 
-    /// Adds a record to those that say the message.
+    /// Merges one more record into the message.
     fn merge(&mut self, alloc: Global, record: Record<'_>) -> Result<(), DecodeError>
         ensures merged { OnOk result ((before : List Spelled)
             → says before self.old
@@ -46,7 +46,7 @@ pub(crate) trait Decode: Drop {
             → ¬ says (before ++ view «record».entry ∷ after) message };
 }
 
-/// Reads all that is left, and merges each record into the message.
+/// Reads everything that is left, and merges each record into the message.
 pub(crate) fn merge_all<M: Decode>(
     alloc: Global,
     reader: Reader<'_>,
@@ -70,8 +70,8 @@ pub(crate) fn merge_all<M: Decode>(
     Ok(())
 }
 
-/// Makes room for one element where there is none yet: most lists of an RPC have one, and would else get room for
-/// more.
+/// Makes room for one element where there is none yet. Most lists of an RPC have one element, and would otherwise get room
+/// for more.
 fn make_room<M: Drop>(items: &mut Vec<M>) -> Result<(), AllocError>
     ensures { items.new.items ≡ items.old.items }
 {
@@ -82,8 +82,8 @@ fn make_room<M: Drop>(items: &mut Vec<M>) -> Result<(), AllocError>
     Ok(())
 }
 
-/// Adds the message that the bytes spell to a list. An empty message is added first and merged into
-/// where it lies, so that none is moved. After an error the list is of no use.
+/// Adds the message that the bytes spell to a list. An empty message is added first, and the records are merged into it in
+/// its place, so that no message is moved. After an error, the list is of no use.
 pub(crate) fn push_message<M: Decode>(
     alloc: Global,
     reader: Reader<'_>,

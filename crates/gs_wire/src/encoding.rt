@@ -1,5 +1,5 @@
-//! Messages as records: first the length of what is written, and then the writing, at the end of a
-//! buffer that has the room. Lengths are exact up to the largest `usize`, and stop there.
+//! Messages as records. The length is measured first. Then the message is written at the end of a buffer that has room for
+//! it. Lengths are exact up to the largest `usize`, and stop there.
 ghost use Rattle.std.specs.Prelude.{◌≡◌, ◌+◌, ◌*◌, ◌<◌, ◌≤◌, ◌∷◌, ◌++◌, List, ℕ, min, length, map, option_copied, option_map, vec_len, vec_capacity};
 ghost use Rattle.gs_wire.specs.Varint.{varint};
 ghost use Rattle.gs_wire.specs.Records.{Record as Spelled, records_text, record_text};
@@ -9,12 +9,12 @@ use crate::varint::{put_varint, varint_len};
 use bytes::Bytes;
 use gs_base::{Shared, Topic};
 
-/// A message as records.
+/// A message that is written as records.
 pub(crate) trait Encode {
-    /// The records that are written, in order.
+    /// The records of the message, in order.
     ghost records: { Self → List Spelled };
 
-    /// How many bytes `put` writes.
+    /// Returns how many bytes `put` writes.
     fn encoded_len(&self) -> usize
         ensures { result ≡ min usize.MAX (length (records_text (records self.now))) };
 
@@ -52,7 +52,7 @@ pub(crate) fn bytes_of_topic(value: &Option<Topic>) -> Option<&[u8]>
     }
 }
 
-/// The length of a record with a value of `len` bytes, in a field whose tag is one byte.
+/// Returns the length of a record with a value of `len` bytes, in a field whose tag is one byte.
 pub(crate) fn len_record_len(len: usize) -> usize
     ensures { (field : ℕ) (bytes : List ℕ)
         → field < 16
@@ -73,7 +73,7 @@ pub(crate) fn optional_len(value: Option<&[u8]>) -> usize
     }
 }
 
-/// 1 for true and 0 for false (Protocol Buffers, Encoding, "Bools and Enums").
+/// Returns 1 for true and 0 for false (Protocol Buffers, Encoding, "Bools and Enums").
 pub(crate) fn bool_number(value: Option<bool>) -> Option<u64>
     ensures { result ≡ option_map bool_number value }
 {

@@ -2,7 +2,7 @@ ghost use Rattle.std.specs.Prelude.{◌≡◌};
 
 use std::alloc::AllocError;
 
-/// Why bytes were not read as an RPC or as frames, or an RPC was not written.
+/// Why bytes were not read as an RPC or as frames, or why an RPC was not written.
 #[derive(Clone, Copy, Debug, PartialEq, Eq, thiserror::Error)]
 pub enum WireFault {
     /// The bytes spell no RPC.
@@ -14,7 +14,7 @@ pub enum WireFault {
     /// The reader has met a fault before.
     #[error("the stream has failed before")]
     Failed,
-    /// There was no memory.
+    /// Out of memory.
     #[error("there was no memory")]
     NoMemory,
 }

@@ -9,15 +9,15 @@ use gs_base::Rpc;
 use std::alloc::Global;
 use std::marker::Model;
 
-/// Reads RPCs from a stream of frames that comes in pieces, however it is cut. Contracts see its
-/// limit and the bytes that it holds of an unfinished frame. After a fault it holds none any more.
-/// It reads a length once where that comes whole, and each body when its last byte is there.
+/// Reads RPCs from a stream of frames that comes in pieces, however it is cut. Contracts see the reader's limit, and the
+/// bytes that it holds of an unfinished frame. After a fault it holds none. It reads a length once, where the length comes
+/// in one piece. It reads a body when the last byte of the body is there.
 #[derive(Drop)]
 pub struct FrameReader {
     limit: usize,
     held: BytesMut,
     next: Option<Span>,
-    /// How many bytes of the body at the front have not come yet, where its length is known, else 0.
+    /// How many bytes of the body at the front have not come yet. It is 0 where the length of that body is not known.
     missing: usize,
     failed: bool,
 }
@@ -33,7 +33,7 @@ impl Model for FrameReader {
     ghost invariant = { λ r. AwaitsBody r.limit r.held.items r.next r.missing r.failed };
 }
 
-/// How many bytes of a frame are missing where `held` bytes are held.
+/// Returns how many bytes of a frame are missing where `held` bytes are held.
 fn missing_of(next: Option<Span>, held: usize) -> usize
     ensures { result ≡ missing_of next held }
 {
@@ -44,7 +44,7 @@ fn missing_of(next: Option<Span>, held: usize) -> usize
 }
 
 impl FrameReader {
-    /// A reader that has read nothing, of bodies of at most `limit` bytes. It takes no memory.
+    /// Returns a reader for bodies of at most `limit` bytes, which has read nothing. It takes no memory.
     pub fn new(alloc: Global, limit: usize) -> FrameReader
         requires { limit ≤ longest_body }
         ensures { result ≡ record { limit = limit; held = Some [] } }
@@ -58,7 +58,7 @@ impl FrameReader {
         }
     }
 
-    /// How many bytes are held of an unfinished frame. After a fault there are none.
+    /// Returns how many bytes it holds of an unfinished frame. After a fault there are none.
     pub fn pending(&self) -> usize
         ensures { result ≡ length (unwrap_or self.now.held []) }
     {
@@ -68,10 +68,10 @@ impl FrameReader {
     /// Takes the next piece of the stream, and adds the RPC of each frame that is whole now.
     ///
     /// # Errors
-    /// `Failed` exactly after a fault; nothing changes. `Malformed` and `TooLong` where the first
-    /// fault of the stream is that; the RPCs before it are added, and the reader has failed.
-    /// `NoMemory`; the reader and the list are as they were. It may come in the place of `Malformed` and
-    /// `TooLong`: only tests say that a fault of the stream isn't refused as out of memory.
+    /// `Failed` exactly if the reader met a fault before; nothing changes. `Malformed` or `TooLong` if that is the first
+    /// fault of the stream. The RPCs before the fault are added, and the reader has failed. `NoMemory` when out of memory;
+    /// the reader and the list are as they were. `NoMemory` may come instead of `Malformed` and `TooLong`. Only tests show
+    /// that a fault of the stream isn't refused as out of memory.
     pub fn feed(
         &mut self,
         alloc: Global,
@@ -132,8 +132,7 @@ impl FrameReader {
         }
     }
 
-    /// Takes a piece where nothing is held: its whole frames are read where they lie, and only the
-    /// rest is copied.
+    /// Takes a piece where nothing is held. It reads the whole frames where they are, and copies only the rest.
     fn feed_whole(
         &mut self,
         alloc: Global,
@@ -167,7 +166,7 @@ impl FrameReader {
         }
     }
 
-    /// From now on the reader is seen to hold nothing, and takes nothing. Gives the fault back.
+    /// Marks the reader as failed, and returns the fault. From now on it holds nothing, and takes nothing.
     fn fail(&mut self, fault: WireFault) -> WireFault
         ensures same { result ≡ fault }
         ensures failed { self.new ≡ record { limit = self.old.limit; held = None } }

@@ -1,4 +1,4 @@
-//! Frames of a stream: a varint length, and then that many bytes of a body.
+//! Frames of a stream. A frame is a varint length, and then a body of this length.
 ghost use Rattle.std.specs.Prelude.{◌≡◌, ◌↔◌, ◌++◌, ◌∷◌, [], ◌-◌, ◌≤◌, List, length, take, drop, None, IfOk, IfErr, IfSome, OnOk, OnErr, IsErrOf, IsTrue};
 ghost use Rattle.gs_base.specs.declared.rpc.Rpc.{Rpc as RpcValue};
 ghost use Rattle.gs_wire.specs.Messages.{SpellsRpc, longest_body};
@@ -17,11 +17,11 @@ pub enum End {
     Waits,
     /// A length is above the limit.
     TooLong,
-    /// A length has no varint, or a body spells no RPC.
+    /// No varint stands where a length must, or a body spells no RPC.
     Malformed,
 }
 
-/// Where the body of the frame at the front begins and ends, as its length says.
+/// Where the body of the frame at the front begins and ends, by the frame's length.
 #[derive(Clone, Copy, Debug, PartialEq, Eq)]
 pub(crate) struct Span {
     pub start: usize,
@@ -33,14 +33,14 @@ pub(crate) struct Span {
 pub(crate) struct Progress {
     /// How many bytes the whole frames take.
     pub taken: usize,
-    /// Where the next body is, where its length is whole.
+    /// Where the next body is, where its length is known.
     pub next: Option<Span>,
     /// How the stream goes on after the whole frames.
     pub end: End,
 }
 
 impl Progress {
-    /// `taken` bytes were taken, and the stream goes on as `end` says, with no length that is whole.
+    /// Returns the progress after `taken` bytes. The stream goes on as `end` says, and no length is known.
     fn without_length(taken: usize, end: End) -> Progress
         ensures { result ≡ record { taken = taken; next = None; end = end } }
     {
@@ -52,15 +52,15 @@ impl Progress {
     }
 }
 
-/// Whether the bytes are the front of a length, or nothing.
+/// Says whether the bytes are the front of a length, or nothing.
 fn begins_length(bytes: &[u8]) -> bool
     ensures { IsTrue result ↔ BeginsLength bytes.now }
 {
     bytes.len() < MAX_VARINT as usize && bytes.iter().all(|byte| *byte >= 128)
 }
 
-/// Where the body of the frame at the front is, or how the stream goes on where no length says so.
-/// A length that was read before isn't read again.
+/// Returns where the body of the frame at the front is. Where no length says that, it returns how the stream goes on. A
+/// length that was read before isn't read again.
 fn span_at(limit: usize, known: Option<Span>, bytes: &[u8]) -> Result<Span, End>
     requires low { limit ≤ longest_body }
     requires known { IfSome known (λ span. IsSpan limit bytes.now span.start span.end) }
@@ -109,7 +109,7 @@ fn push_body(
     Ok(())
 }
 
-/// Adds the RPCs of the whole frames to a list. The length at the front may be known.
+/// Adds the RPCs of the whole frames to a list. The length at the front may be known already.
 pub(crate) fn read_frames(
     alloc: Global,
     limit: usize,

@@ -1,4 +1,4 @@
-//! RPCs that are gathered to go out as one.
+//! RPCs that are gathered, so that they go out as one.
 ghost use Rattle.std.specs.Prelude.{◌≡◌, ◌≤◌, ◌+◌, ◌++◌, None, Some, Ok, true, false, IfOk, IfSome, OnOk, OnErr, option_map, length, vec_len, vec_capacity};
 ghost use Rattle.std.specs.List.{flat_map};
 ghost use Rattle.gs_base.specs.declared.rpc.Rpc.{Rpc as RpcValue};
@@ -21,9 +21,9 @@ use std::marker::Model;
 #[derive(Drop)]
 pub struct Gathered {
     parts: Vec<Shared<WrittenRpc>>,
-    /// The length of what they say outside of their control messages.
+    /// The length of everything that they say outside of their control messages.
     plain: usize,
-    /// The length of all their control messages, where one has some.
+    /// The length of all their control messages, where they have some.
     control: Option<usize>,
 }
 
@@ -41,7 +41,7 @@ impl Model for Gathered {
 }
 
 impl Gathered {
-    /// Of nothing. It takes no memory.
+    /// Returns a value that has gathered nothing. It takes no memory.
     pub fn new(alloc: Global) -> Gathered
         ensures { result ≡ None }
     {
@@ -52,10 +52,10 @@ impl Gathered {
         }
     }
 
-    /// Joins one more RPC to them, if that fits a frame. False where it does not.
+    /// Joins one more RPC to the gathered ones and returns true, or returns false where that would not fit a frame.
     ///
     /// # Errors
-    /// `AllocError` where there was no memory for it. Nothing changes then, nor where it is false.
+    /// `AllocError` when out of memory. After an error, and after false, nothing has changed.
     pub fn gather(&mut self, part: &Shared<WrittenRpc>) -> Result<bool, AllocError>
         ensures fits { IfOk result (λ fits. fits ≡ codec.fits (joined_to self.old part.now)) }
         ensures joined { result ≡ Ok true → self.new ≡ Some (joined_to self.old part.now) }
@@ -73,10 +73,10 @@ impl Gathered {
         Ok(true)
     }
 
-    /// Takes the frame of what was gathered. There is none where nothing was gathered.
+    /// Takes the frame of what was gathered, and returns none where nothing was gathered.
     ///
     /// # Errors
-    /// `AllocError` where there was no memory for it.
+    /// `AllocError` when out of memory.
     pub fn take_frame(&mut self, alloc: Global) -> Result<Option<Bytes>, AllocError>
         ensures frame { IfOk result (λ text. text ≡ option_map frame self.old) }
         ensures taken { OnOk result (self.new ≡ None) }
@@ -89,7 +89,7 @@ impl Gathered {
         Ok(frame)
     }
 
-    /// The frame: that of a single RPC is shared, and sections that stand are copied where there are several.
+    /// Returns the frame. That of a single RPC is shared. For several RPCs, their written sections are copied.
     fn frame(&self, alloc: Global) -> Result<Option<Bytes>, AllocError>
         ensures { IfOk result (λ text. text ≡ option_map frame self.now) }
     {
@@ -115,7 +115,7 @@ impl Gathered {
     }
 }
 
-/// Copies what stands for a section in each of the parts.
+/// Copies what is written for a section in each of the parts.
 fn copy_section(buffer: &mut Vec<u8>, parts: &[Shared<WrittenRpc>], wanted: Section)
     requires room { vec_len buffer.old + length (section wanted (as_one (joined_rpcs parts.now))) ≤ vec_capacity buffer.old }
     ensures written { buffer.new.items ≡ buffer.old.items ++ section wanted (as_one (joined_rpcs parts.now)) }
@@ -126,7 +126,7 @@ fn copy_section(buffer: &mut Vec<u8>, parts: &[Shared<WrittenRpc>], wanted: Sect
     }
 }
 
-/// Copies what stands for each of these sections, one section after the other.
+/// Copies what is written for each of these sections, one section after the other.
 fn copy_sections(buffer: &mut Vec<u8>, parts: &[Shared<WrittenRpc>], wanted: &[Section])
     requires room { vec_len buffer.old + length (flat_map (λ s. section s (as_one (joined_rpcs parts.now))) wanted.now)
         ≤ vec_capacity buffer.old }
@@ -139,7 +139,7 @@ fn copy_sections(buffer: &mut Vec<u8>, parts: &[Shared<WrittenRpc>], wanted: &[S
     }
 }
 
-/// Writes the record of all their control messages, which are of this length where there are some.
+/// Writes the record of all their control messages, which have this length, where there are some.
 fn copy_control(buffer: &mut Vec<u8>, parts: &[Shared<WrittenRpc>], len: Option<usize>)
     requires len { len ≡ control_length (as_one (joined_rpcs parts.now)) }
     requires room { vec_len buffer.old + length (control_part (as_one (joined_rpcs parts.now)).control) ≤ vec_capacity buffer.old }
@@ -152,7 +152,7 @@ fn copy_control(buffer: &mut Vec<u8>, parts: &[Shared<WrittenRpc>], len: Option<
     copy_sections(buffer, parts, &Section::OF_CONTROL);
 }
 
-/// The length of joined control messages, by the lengths of both: none where neither RPC has some.
+/// Returns the length of joined control messages from both lengths, or none where neither RPC has some.
 fn both_lens(first: Option<usize>, second: Option<usize>) -> Option<usize>
     requires first_fits { IfSome first (λ len. len ≤ longest_body) }
     requires second_fits { IfSome second (λ len. len ≤ longest_body) }

@@ -1,4 +1,4 @@
-//! RPCs that are gathered and handed over as one RPC, which is never written as bytes.
+//! RPCs that are gathered, and handed over as one RPC. That RPC is never written as bytes.
 ghost use Rattle.std.specs.Prelude.{◌≡◌, None, Some, Ok, true, false, IfOk, OnOk, OnErr, Option, is_none};
 ghost use Rattle.gs_base.specs.declared.control.Control.{Control as ControlValue};
 ghost use Rattle.gs_wire.specs.Codec.{codec};
@@ -16,9 +16,9 @@ use std::marker::Model;
 #[derive(Drop)]
 pub struct GatheredRpcs {
     rpcs: Vec<Shared<Rpc>>,
-    /// How long what they say outside of their control messages is when it is written.
+    /// The length, when written, of everything that they say outside of their control messages.
     plain: usize,
-    /// How long all their control messages are, where one has some.
+    /// The length of all their control messages, where they have some.
     control: Option<usize>,
 }
 
@@ -36,7 +36,7 @@ impl Model for GatheredRpcs {
 }
 
 impl GatheredRpcs {
-    /// Of nothing. It takes no memory.
+    /// Returns a value that has gathered nothing. It takes no memory.
     pub fn new(alloc: Global) -> GatheredRpcs
         ensures { result ≡ None }
     {
@@ -47,17 +47,17 @@ impl GatheredRpcs {
         }
     }
 
-    /// Whether nothing is gathered.
+    /// Says whether nothing is gathered.
     pub fn is_empty(&self) -> bool
         ensures { result ≡ is_none self.now }
     {
         self.rpcs.is_empty()
     }
 
-    /// Joins one more RPC to them, if that fits a frame. False where it does not.
+    /// Joins one more RPC to the gathered ones and returns true, or returns false where that would not fit a frame.
     ///
     /// # Errors
-    /// `AllocError` where there was no memory for it. Nothing changes then, nor where it is false.
+    /// `AllocError` when out of memory. After an error, and after false, nothing has changed.
     pub fn gather(&mut self, rpc: &Shared<Rpc>) -> Result<bool, AllocError>
         ensures fits { IfOk result (λ fits. fits ≡ codec.fits (joined_to self.old rpc.now)) }
         ensures joined { result ≡ Ok true → self.new ≡ Some (joined_to self.old rpc.now) }
@@ -75,11 +75,11 @@ impl GatheredRpcs {
         Ok(true)
     }
 
-    /// Takes what was gathered as one RPC. There is none where nothing was gathered. A single RPC is handed over as it
+    /// Takes what was gathered as one RPC, and returns none where nothing was gathered. A single RPC is handed over as it
     /// is, and not copied.
     ///
     /// # Errors
-    /// `AllocError` where there was no memory for it. Nothing changes then.
+    /// `AllocError` when out of memory. Nothing changes then.
     pub fn take(&mut self, alloc: Global) -> Result<Option<Shared<Rpc>>, AllocError>
         ensures rpc { IfOk result (λ found. found ≡ self.old) }
         ensures taken { OnOk result (self.new ≡ None) }
@@ -96,7 +96,7 @@ impl GatheredRpcs {
         Ok(alone)
     }
 
-    /// Forgets what was gathered, and keeps the memory for what comes.
+    /// Forgets what was gathered, and keeps the memory for later RPCs.
     fn clear(&mut self)
         ensures { self.new ≡ None }
     {
@@ -105,7 +105,8 @@ impl GatheredRpcs {
         self.control = None;
     }
 
-    /// The kept length says without a look at the RPCs whether one has control messages.
+    /// Returns the joined RPC. The kept length says whether one of the RPCs has control messages, so they need not be
+    /// searched.
     fn joined(&self, alloc: Global) -> Result<Rpc, AllocError>
         ensures { IfOk result (λ rpc. rpc ≡ as_one self.now) }
     {
@@ -114,7 +115,7 @@ impl GatheredRpcs {
     }
 }
 
-/// The length of joined control messages, by the lengths of both: none where neither RPC has some. Lengths stop at the
+/// Returns the length of joined control messages from both lengths, or none where neither RPC has some. Lengths stop at the
 /// largest `usize`.
 fn joined_control_len(first: Option<usize>, second: Option<usize>) -> Option<usize>
     ensures { (c d : Option ControlValue)

@@ -12,11 +12,11 @@ use crate::rpc::{MAX_BODY, control_len, full_len};
 use gs_base::{Control, ExactClone, Part, Rpc, Seq, Shared, clone_of};
 use std::alloc::{AllocError, Global};
 
-/// Joins the second RPC to the first, if that fits a frame: the lists of the first are followed by those of the second, and
-/// control messages are there where either has some. False where it does not fit.
+/// Joins the second RPC to the first and returns true, or returns false where that would not fit a frame. In each list, the
+/// elements of the first RPC come before those of the second. The result has control messages where either RPC has some.
 ///
 /// # Errors
-/// `NoMemory`. The first is as it was then, and where the answer is false.
+/// `NoMemory` when out of memory. After an error, and after false, the first RPC is as it was.
 pub fn join(alloc: Global, rpc: &mut Rpc, more: &Rpc) -> Result<bool, WireFault>
     ensures fits { IfOk result (λ fits. fits ≡ codec.fits (joined_rpc rpc.old more.now)) }
     ensures joined { result ≡ Ok true → rpc.new ≡ joined_rpc rpc.old more.now }
@@ -40,12 +40,12 @@ fn joined_rpc(alloc: Global, first: &Rpc, second: &Rpc) -> Result<Rpc, AllocErro
     Ok(rpc)
 }
 
-/// Whoever holds an RPC, by a reference or shared.
+/// A type that holds an RPC, by a reference or shared.
 pub(crate) trait HoldsRpc {
     /// The RPC.
     ghost held: { Self → RpcValue };
 
-    /// The RPC.
+    /// Returns the RPC.
     fn held(&self) -> &Rpc
         ensures { result.now ≡ held self.now };
 }
@@ -66,8 +66,8 @@ impl HoldsRpc for Shared<Rpc> {
     }
 }
 
-/// One RPC that says what all of these say, the first one's part first in each list. The caller knows whether one of them
-/// has control messages.
+/// Returns one RPC that says what all of these say. In each list, the elements of earlier RPCs come first. The caller knows
+/// whether one of them has control messages.
 pub(crate) fn joined<R: HoldsRpc>(
     alloc: Global,
     rpcs: &[R],
@@ -109,7 +109,7 @@ fn all_control<R: HoldsRpc>(alloc: Global, rpcs: &[R]) -> Result<Control, AllocE
     })
 }
 
-/// All that the RPCs have in their lists of one kind, in order.
+/// Returns everything that the RPCs have in their lists of one kind, in order.
 fn all_of<P: Part + ExactClone, R: HoldsRpc>(
     alloc: Global,
     rpcs: &[R],
@@ -123,7 +123,7 @@ fn all_of<P: Part + ExactClone, R: HoldsRpc>(
     Ok(Seq::from(parts))
 }
 
-/// How many parts of one kind the RPCs have, up to the largest `usize`.
+/// Returns how many parts of one kind the RPCs have, up to the largest `usize`.
 fn count_of<P: Part, R: HoldsRpc>(rpcs: &[R]) -> usize
     ensures { result ≡ min usize.MAX (length (flat_map (λ r. P.parts (R.held r)) rpcs.now)) }
 {
@@ -134,7 +134,7 @@ fn count_of<P: Part, R: HoldsRpc>(rpcs: &[R]) -> usize
     count
 }
 
-/// Adds a clone of each element. After an error some of them were added.
+/// Appends a clone of each element. After an error, some of them were appended.
 fn push_clones<T: ExactClone + Drop>(items: &mut Vec<T>, more: &[T]) -> Result<(), AllocError>
     ensures { OnOk result (items.new.items ≡ items.old.items ++ more.now) }
 {

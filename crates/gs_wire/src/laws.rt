@@ -1,4 +1,4 @@
-//! Laws of the wire format. Each holds of its definitions only, and its function does nothing.
+//! Laws of the wire format. Each law is only about definitions, and its function does nothing.
 ghost use Rattle.std.specs.Prelude.{[], ◌∷◌, ◌≡◌, ◌<◌, ◌≤◌, ◌+◌, ◌^◌, ◌++◌, ◌↔◌, List, ℕ, length, Some, None};
 ghost use Rattle.gs_wire.specs.Joining.{joined_options, joined_rpc, joined_rpcs};
 ghost use Rattle.gs_base.specs.declared.names.Topic.{Topic};
@@ -28,7 +28,7 @@ pub fn a_body_spells_its_rpc()
     ensures { (v : Rpc) → IsInMemory v → SpellsRpc (body v) v }
 {}
 
-/// No frame begins another: whatever follows a frame, it is read back, and what follows it is left.
+/// No frame is the front of another frame. Whatever follows a frame, its RPC is read, and what follows the frame is left.
 pub fn no_frame_begins_another()
     ensures { (v w : Rpc) (x y : List ℕ)
         → IsInMemory v
@@ -43,7 +43,7 @@ pub fn the_written_varint_is_shortest()
     ensures shortest { (text : List ℕ) (n : ℕ) → IsVarint text n → length (varint n) ≤ length text }
 {}
 
-/// A stream is one list of frames, and goes on in one way.
+/// A stream of bytes is one list of frames, with one rest, and goes on in one way.
 pub fn a_stream_is_one()
     ensures { (limit : ℕ) (bytes : List ℕ) (vs ws : List Rpc) (r s : List ℕ) (e d : End)
         → IsStream limit bytes vs r e
@@ -51,22 +51,22 @@ pub fn a_stream_is_one()
         → (vs ≡ ws) × (r ≡ s) × (e ≡ d) }
 {}
 
-/// However a stream is cut into pieces, what a reader finds in them is what stands in all of it.
+/// However a stream is cut into pieces, a reader finds in them what the whole stream has.
 pub fn a_stream_may_be_cut_anywhere()
     ensures { (limit : ℕ) (pieces : List (List ℕ)) (vs : List Rpc) (end : End)
         → FindsIn limit [] pieces vs end
         → (rest : List ℕ) × IsStream limit (concat pieces) vs rest end }
 {}
 
-/// However bytes are fed, what a reader holds then is the unread end of all of them, where no fault
-/// stands. So a stream that is closed there ends after unread bytes.
+/// However bytes are fed, a reader holds the unread end of all of them, unless they have a fault. So a stream that is closed
+/// there ends after unread bytes.
 pub fn a_reader_holds_the_unread_end()
     ensures { (limit : ℕ) (pieces : List (List ℕ)) (reader : Holding) (vs : List Rpc)
         → FeedsAll (record { limit = limit; held = Some [] }) pieces reader vs
         → HasRead limit (concat pieces) reader vs }
 {}
 
-/// Every list of bytes is a stream, and by `a_stream_is_one` in one way.
+/// Every list of bytes is a stream, and by `a_stream_is_one` in only one way.
 pub fn every_list_of_bytes_is_a_stream()
     ensures { (limit : ℕ) (bytes : List ℕ)
         → (vs : List Rpc) × (rest : List ℕ) × (end : End) × IsStream limit bytes vs rest end }
@@ -81,21 +81,19 @@ pub fn a_written_frame_is_read_back()
         → IsStream limit (frame v ++ more) (v ∷ vs) rest end }
 {}
 
-/// What was read is not longer when it is written: bytes that spell an RPC are at least as many as
-/// those of its body.
+/// An RPC that was read doesn't get longer when it is written. Its body has at most as many bytes as the bytes that spelled it.
 pub fn what_was_read_is_no_longer_when_written()
     ensures { (bytes : List ℕ) (v : Rpc) → SpellsRpc bytes v → length (body v) ≤ length bytes }
 {}
 
-/// Each RPC of a stream fits the limit when it is written again.
+/// Each RPC of a stream fits the stream's limit when it is written again.
 pub fn what_was_read_fits_a_frame()
     ensures { (limit : ℕ) (bytes : List ℕ) (vs : List Rpc) (rest : List ℕ) (end : End)
         → IsStream limit bytes vs rest end
         → AllByRecursion (λ v. length (body v) ≤ limit) vs }
 {}
 
-/// A message by itself is not longer than an RPC in which it stands. So what was heard fits a frame when it
-/// is passed on.
+/// A message by itself is not longer than an RPC that has it. So a message that was heard fits a frame when it is passed on.
 pub fn a_message_by_itself_is_no_longer()
     ensures { (v : Rpc) (m : Message)
         → IsAmong v.publish m
@@ -131,7 +129,7 @@ pub fn a_prune_fits_a_frame()
         → length (body (pruning topic seconds)) ≤ longest_body }
 {}
 
-/// Two bodies, one after the other, spell the RPC that both are joined to.
+/// Two bodies, one after the other, spell the RPC that results from joining the two RPCs.
 pub fn bodies_in_a_row_spell_the_joined_rpc()
     ensures spelled { (x y : List ℕ) (v w : Rpc)
         → SpellsRpc x v
@@ -140,13 +138,13 @@ pub fn bodies_in_a_row_spell_the_joined_rpc()
     ensures written { (v w : Rpc) → IsInMemory v → IsInMemory w → SpellsRpc (body v ++ body w) (joined_rpc v w) }
 {}
 
-/// What is written for joined RPCs is no longer than what is written for both.
+/// The body of a joined RPC is no longer than the two bodies together.
 pub fn a_joined_body_is_no_longer()
     ensures { (v w : Rpc) → length (body (joined_rpc v w)) ≤ length (body v) + length (body w) }
 {}
 
-/// RPCs are joined in their order, and it does not matter which of three neighbours in it are joined first. Joined control
-/// messages are absent exactly where neither RPC has some, and joined RPCs are absent exactly where there are none.
+/// RPCs may be joined in any grouping, if their order is kept. Joined control messages are absent exactly where neither RPC
+/// has some. Joined RPCs are absent exactly where there are none.
 pub fn rpcs_are_joined_in_any_grouping()
     ensures grouping { (u v w : Rpc) → joined_rpc (joined_rpc u v) w ≡ joined_rpc u (joined_rpc v w) }
     ensures lists { (vs ws : List Rpc)

@@ -1,5 +1,5 @@
-//! Fields that records are merged into. Each takes what a record of its number and wire type holds. It stays as it is at
-//! any other record.
+//! Fields into which records are merged. Each field takes what a record of its number and wire type holds. Any other record
+//! leaves it unchanged.
 ghost use Rattle.std.specs.Prelude.{◌≡◌, List, [], ◌∷◌, ◌++◌, OnOk, IsErrOf};
 ghost use Rattle.std.specs.List.{AllZip};
 ghost use Rattle.gs_wire.specs.Records.{Record as Spelled, len_values};
@@ -12,7 +12,7 @@ use bytes::Bytes;
 use gs_base::{Seq, Shared, Topic};
 use std::alloc::{AllocError, Global};
 
-/// Adds the message that a record holds to a repeated field. After an error the list is of no use.
+/// Adds the message that a record holds to a repeated field. After an error, the list is of no use.
 pub(crate) fn merge_part<M: Decode>(
     alloc: Global,
     record: &Record<'_>,
@@ -85,7 +85,7 @@ pub(crate) fn merge_bytes(
     Ok(())
 }
 
-/// The same for bytes that are seldom there.
+/// Sets a field of bytes that is rarely present to the bytes that a record holds.
 #[inline(always)]
 pub(crate) fn merge_shared(
     alloc: Global,
@@ -115,7 +115,7 @@ pub(crate) fn merge_number(record: &Record<'_>, wanted: u64, number: &mut Option
     }
 }
 
-/// A truth value is true where it isn't 0.
+/// Sets a truth value from a record. It is true where the number isn't 0.
 #[inline(always)]
 pub(crate) fn merge_bool(record: &Record<'_>, wanted: u64, truth: &mut Option<bool>)
     ensures { (before : List Spelled)

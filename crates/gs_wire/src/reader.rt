@@ -6,8 +6,8 @@ use bytes::Bytes;
 use std::alloc::AllocError;
 use std::marker::Model;
 
-/// What is left to read of a body, or of one message inside it. Contracts see the bytes that are
-/// left. It keeps its place in the body, so that what is kept of them shares the body.
+/// What is left to read of a body, or of one message inside it. Contracts see the bytes that are left. The reader keeps its
+/// place in the body, so that values which are kept share the body.
 #[derive(Drop)]
 pub(crate) struct Reader<'a> {
     body: &'a Bytes,
@@ -43,7 +43,7 @@ impl<'a> Reader<'a> {
         self.bytes.is_empty()
     }
 
-    /// The same bytes, which the other reader leaves to be read.
+    /// Returns a reader of the same bytes. This reader does not advance with it.
     pub(crate) fn again(&self) -> Reader<'a>
         ensures { result ≡ self.now }
     {
@@ -54,14 +54,14 @@ impl<'a> Reader<'a> {
         }
     }
 
-    /// What is left, as bytes that share the body.
+    /// Returns what is left, as bytes that share the body.
     pub(crate) fn to_bytes(&self) -> Result<Bytes, AllocError>
         ensures { IfOk result (λ bytes. bytes ≡ self.now) }
     {
         self.body.slice(self.start..self.start + self.bytes.len())
     }
 
-    /// Splits the first `count` bytes off.
+    /// Splits off the first `count` bytes.
     fn split_to(&mut self, count: usize) -> Reader<'a>
         requires { count ≤ length self.old }
         ensures front { result ≡ take count self.old }
@@ -87,7 +87,7 @@ impl<'a> Reader<'a> {
         Some(number)
     }
 
-    /// The next `count` bytes; none where fewer are left.
+    /// Returns the next `count` bytes, or none where fewer are left.
     pub(crate) fn bytes(&mut self, count: u64) -> Option<Reader<'a>>
         ensures { option_map (λ bytes. (bytes, self.new)) result ≡ bytes_at count self.old }
     {

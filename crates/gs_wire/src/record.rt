@@ -22,7 +22,7 @@ pub(crate) struct Record<'a> {
 }
 
 impl<'a> Record<'a> {
-    /// What a record of this field holds, where that is bytes.
+    /// Returns what a record of this field holds, where that is bytes.
     #[inline(always)]
     pub(crate) fn bytes_in(&self, wanted: u64) -> Option<Reader<'a>>
         ensures { result ≡ len_in wanted self.now.field (view_value self.now.value) }
@@ -37,7 +37,7 @@ impl<'a> Record<'a> {
         Some(bytes.again())
     }
 
-    /// What a record of this field holds, where that is a number.
+    /// Returns what a record of this field holds, where that is a number.
     #[inline(always)]
     pub(crate) fn number_in(&self, wanted: u64) -> Option<u64>
         ensures { result ≡ varint_in wanted self.now.field (view_value self.now.value) }
@@ -53,7 +53,7 @@ impl<'a> Record<'a> {
     }
 }
 
-/// Reads the value of a wire type; 3 and 4, groups, are deprecated, and none here.
+/// Reads the value of a wire type. Groups, 3 and 4, are deprecated, and have no value here.
 #[inline(always)]
 #[tactic(auto, unfolding(crate::specs::Reading::value_at))]
 fn read_value<'a>(reader: &mut Reader<'a>, wire_type: u64) -> Option<Value<'a>>

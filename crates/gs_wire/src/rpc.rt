@@ -31,7 +31,7 @@ pub(crate) const RPC_CONTROL: u64 = 3;
 /// The longest body that is written, in bytes.
 pub const MAX_BODY: usize = 1_048_576;
 
-/// The control that was read before, or an empty one, with the records of one more value.
+/// Returns the control that was read before, or an empty one, with the records of one more value merged into it.
 fn merged(alloc: Global, before: Option<Control>, bytes: Reader<'_>) -> Result<Control, DecodeError>
     ensures merged { IfOk result (λ control. (records : List Spelled)
         × SpellRecords bytes.entry records
@@ -50,7 +50,7 @@ fn merged(alloc: Global, before: Option<Control>, bytes: Reader<'_>) -> Result<C
     Ok(control)
 }
 
-/// Merges the control that a record holds into what was read before.
+/// Merges the control that a record holds into the control that was read before.
 fn merge_control(
     alloc: Global,
     record: &Record<'_>,
@@ -85,8 +85,8 @@ impl Decode for Rpc {
     }
 }
 
-/// Adds what a body spells to an RPC that says nothing yet, and shares one copy of the body. After
-/// an error the RPC is of no use.
+/// Adds what a body spells to an RPC that says nothing yet, and shares one copy of the body. After an error, the RPC is of
+/// no use.
 pub(crate) fn read_body(alloc: Global, body: &[u8], rpc: &mut Rpc) -> Result<(), DecodeError>
     requires { SaysRpc [] rpc.old }
     ensures spelled { OnOk result (SpellsRpc body.now rpc.new) }
@@ -97,13 +97,13 @@ pub(crate) fn read_body(alloc: Global, body: &[u8], rpc: &mut Rpc) -> Result<(),
     Ok(())
 }
 
-/// The RPC that a body spells. Unknown fields, and known ones of another wire type, are skipped; of
-/// a field that isn't repeated the last value stands; each varint is taken in any of its spellings.
-/// The RPC keeps one copy of the body, which its payloads and topics share.
+/// Returns the RPC that a body spells. It skips unknown fields, and known ones of another wire type. For a field that isn't
+/// repeated, the last value is used. Each varint may have any of its spellings. The RPC keeps one copy of the body, which
+/// its payloads and topics share.
 ///
 /// # Errors
-/// `Malformed` only where the body spells no RPC, and `NoMemory`, which may come in the place of any
-/// answer: only tests say that a body which spells no RPC isn't refused as out of memory.
+/// `Malformed` only if the body spells no RPC. `NoMemory` when out of memory, which may come instead of any answer. Only
+/// tests show that a body which spells no RPC isn't refused as out of memory.
 pub fn decode(alloc: Global, body: &[u8]) -> Result<Rpc, WireFault>
     ensures spelled { IfOk result (λ rpc. SpellsRpc body.now rpc) }
     ensures malformed { IsErrOf result WireFault.Malformed → (rpc : RpcValue) → ¬ SpellsRpc body.now rpc }
@@ -117,7 +117,7 @@ pub fn decode(alloc: Global, body: &[u8]) -> Result<Rpc, WireFault>
     }
 }
 
-/// The length of the control of an RPC, where it has one.
+/// Returns the length of the control of an RPC, where it has one.
 pub(crate) fn control_len(rpc: &Rpc) -> Option<usize>
     ensures { result ≡ option_map (λ c. min usize.MAX (length (records_text (control_records c)))) rpc.now.control }
 {
@@ -127,7 +127,7 @@ pub(crate) fn control_len(rpc: &Rpc) -> Option<usize>
     }
 }
 
-/// The length of the record of a control of this length, where there is one.
+/// Returns the length of the record of a control of this length, where there is one.
 pub(crate) fn control_record_len(len: Option<usize>) -> usize
     ensures { (control : Option ControlValue)
         → len ≡ option_map (λ c. min usize.MAX (length (records_text (control_records c)))) control
@@ -139,14 +139,14 @@ pub(crate) fn control_record_len(len: Option<usize>) -> usize
     }
 }
 
-/// The length of what an RPC says outside of its control messages, up to the largest `usize`.
+/// Returns the length of everything that an RPC says outside of its control messages, up to the largest `usize`.
 pub(crate) fn plain_len(rpc: &Rpc) -> usize
     ensures { result ≡ min usize.MAX (plain_length rpc.now) }
 {
     parts_len(rpc.subs.as_slice()).saturating_add(parts_len(rpc.publish.as_slice()))
 }
 
-/// The length of the body of an RPC, up to the largest `usize`.
+/// Returns the length of the body of an RPC, up to the largest `usize`.
 pub(crate) fn full_len(rpc: &Rpc, control: Option<usize>) -> usize
     requires { control ≡ option_map (λ c. min usize.MAX (length (records_text (control_records c)))) rpc.now.control }
     ensures { result ≡ min usize.MAX (length (body rpc.now)) }
@@ -154,7 +154,7 @@ pub(crate) fn full_len(rpc: &Rpc, control: Option<usize>) -> usize
     plain_len(rpc).saturating_add(control_record_len(control))
 }
 
-/// The length of the body of an RPC, where that isn't too long.
+/// Returns the length of the body of an RPC, where that isn't too long.
 pub(crate) fn body_len(rpc: &Rpc, control: Option<usize>) -> Result<usize, WireFault>
     requires { control ≡ option_map (λ c. min usize.MAX (length (records_text (control_records c)))) rpc.now.control }
     ensures len { IfOk result (λ len. (len ≡ length (body rpc.now)) × (len ≤ longest_body)) }
@@ -180,12 +180,12 @@ fn put_body(buffer: &mut Vec<u8>, rpc: &Rpc, control: Option<usize>)
     }
 }
 
-/// Writes the body of an RPC at the end of a buffer: fields ascending, repeated ones in order,
-/// shortest varints, and nothing for what is absent.
+/// Writes the body of an RPC at the end of a buffer. Fields are ascending, repeated ones are in order, varints are shortest,
+/// and nothing is written for what is absent.
 ///
 /// # Errors
-/// `TooLong` exactly where the body is longer than `MAX_BODY`, and `NoMemory` only where the buffer
-/// lacked the room; the buffer is then as it was.
+/// `TooLong` exactly if the body is longer than `MAX_BODY`. `NoMemory` only if the buffer lacked the room. After an error,
+/// the buffer is as it was.
 pub fn encode(rpc: &Rpc, buffer: &mut Vec<u8>) -> Result<(), WireFault>
     ensures written { OnOk result (buffer.new.items ≡ buffer.old.items ++ body rpc.now) }
     ensures kept { OnErr result (buffer.new.items ≡ buffer.old.items) }
@@ -204,8 +204,8 @@ pub fn encode(rpc: &Rpc, buffer: &mut Vec<u8>) -> Result<(), WireFault>
 /// Writes the frame of an RPC at the end of a buffer: the length of its body, and the body.
 ///
 /// # Errors
-/// `TooLong` exactly where the body is longer than `MAX_BODY`, and `NoMemory` only where the buffer
-/// lacked the room; the buffer is then as it was.
+/// `TooLong` exactly if the body is longer than `MAX_BODY`. `NoMemory` only if the buffer lacked the room. After an error,
+/// the buffer is as it was.
 pub fn encode_frame(rpc: &Rpc, buffer: &mut Vec<u8>) -> Result<(), WireFault>
     ensures written { OnOk result (buffer.new.items ≡ buffer.old.items ++ frame rpc.now) }
     ensures kept { OnErr result (buffer.new.items ≡ buffer.old.items) }
@@ -222,8 +222,7 @@ pub fn encode_frame(rpc: &Rpc, buffer: &mut Vec<u8>) -> Result<(), WireFault>
     Ok(())
 }
 
-/// The length, in bytes, of the body of an RPC that publishes one message under StrictNoSign. It
-/// takes no memory.
+/// Returns the length, in bytes, of the body of an RPC that publishes one message under StrictNoSign. It takes no memory.
 pub fn publish_len(topic: &Topic, payload: &[u8]) -> usize
     requires { length topic.now.0 ≤ 1024 }
     ensures { result ≡ length (body (publication topic.now payload.now)) }

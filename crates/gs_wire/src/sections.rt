@@ -1,4 +1,4 @@
-//! RPCs that are written once, with the places of their sections, so that several are joined by copying what stands.
+//! RPCs that are written once, with the places of their sections. So several are joined by copying what is written.
 ghost use Rattle.std.specs.Prelude.{◌≡◌, ◌⊎◌, ◌↔◌, ◌<◌, ◌≤◌, ◌+◌, ◌++◌, Err, IfOk, IfErr, List, ℕ, length, min, option_map, unwrap_or, vec_len, vec_capacity};
 ghost use Rattle.gs_wire.specs.Records.{records_text};
 ghost use Rattle.gs_wire.specs.Fields.{part_records};
@@ -16,8 +16,8 @@ use gs_base::{Control, Rpc, Shared, clone_of};
 use std::alloc::{AllocError, Global};
 use std::marker::Model;
 
-/// A section of a body: the records of one field, of an RPC or of its control messages, in the order in which they are
-/// written.
+/// A section of a body: the records of one field, in the order in which they are written. The field is one of an RPC or of
+/// its control messages.
 #[derive(Clone, Copy)]
 pub(crate) enum Section {
     Subscriptions,
@@ -29,7 +29,7 @@ pub(crate) enum Section {
 }
 
 impl Section {
-    /// Those of control messages, in their order.
+    /// The sections of control messages, in their order.
     pub(crate) const OF_CONTROL: [Section; 4] = [
         Section::Offers,
         Section::Requests,
@@ -53,7 +53,7 @@ struct Places {
     control: ControlPlaces,
 }
 
-/// Where those of its control messages do. Where it has none they are empty.
+/// Where the sections of an RPC's control messages stand. They are empty where it has none.
 #[derive(Clone, Copy)]
 struct ControlPlaces {
     offers: Place,
@@ -86,7 +86,7 @@ impl WrittenRpc {
     /// Writes the frame of an RPC.
     ///
     /// # Errors
-    /// `TooLong` exactly where its body is longer than `MAX_BODY`, and `NoMemory`.
+    /// `TooLong` exactly if the body is longer than `MAX_BODY`. `NoMemory` when out of memory.
     pub fn new(alloc: Global, rpc: &Shared<Rpc>) -> Result<WrittenRpc, WireFault>
         ensures written { IfOk result (λ written. written ≡ rpc.now) }
         ensures too_long { (result ≡ Err WireFault.TooLong) ↔ (longest_body < length (body rpc.now)) }
@@ -98,24 +98,24 @@ impl WrittenRpc {
         Ok(written)
     }
 
-    /// The RPC.
+    /// Returns the RPC.
     pub fn rpc(&self) -> &Rpc
         ensures { result.now ≡ self.now }
     {
         self.rpc.get()
     }
 
-    /// Its frame, shared.
+    /// Returns its frame, shared.
     ///
     /// # Errors
-    /// `AllocError` where there was no memory for it.
+    /// `AllocError` when out of memory.
     pub fn frame(&self) -> Result<Bytes, AllocError>
         ensures { IfOk result (λ text. text ≡ frame self.now) }
     {
         clone_of(&self.frame)
     }
 
-    /// The length of what it says outside of its control messages.
+    /// Returns the length of everything that it says outside of its control messages.
     pub(crate) fn plain_len(&self) -> usize
         ensures len { result ≡ plain_length self.now }
         ensures fits { length (body self.now) ≤ longest_body }
@@ -123,7 +123,7 @@ impl WrittenRpc {
         self.places.messages.end - self.places.subscriptions.start
     }
 
-    /// The length of its control messages, where it has some.
+    /// Returns the length of its control messages, where it has some.
     pub(crate) fn control_len(&self) -> Option<usize>
         ensures { result ≡ control_length self.now }
     {
@@ -133,7 +133,7 @@ impl WrittenRpc {
         }
     }
 
-    /// What stands in its frame for a section.
+    /// Returns what its frame has for a section.
     pub(crate) fn section(&self, wanted: Section) -> &[u8]
         ensures { result.now ≡ section wanted self.now }
     {
@@ -182,7 +182,7 @@ fn write(
     })
 }
 
-/// Writes the body of an RPC, and says where its sections stand.
+/// Writes the body of an RPC, and returns where its sections stand.
 fn put_sections(buffer: &mut Vec<u8>, rpc: &Rpc, control: Option<usize>) -> Places
     requires sized { control ≡
         option_map (λ c. min usize.MAX (length (records_text (control_records c)))) rpc.now.control }
@@ -200,7 +200,7 @@ fn put_sections(buffer: &mut Vec<u8>, rpc: &Rpc, control: Option<usize>) -> Plac
     }
 }
 
-/// Writes the record of control messages of this length, where there are some, and says where their sections stand.
+/// Writes the record of control messages of this length, where there are some. It returns where their sections stand.
 fn put_control(buffer: &mut Vec<u8>, control: &Option<Control>, len: Option<usize>) -> ControlPlaces
     requires sized { len ≡
         option_map (λ c. min usize.MAX (length (records_text (control_records c)))) control.now }
@@ -247,7 +247,7 @@ fn no_sections(place: usize) -> ControlPlaces
     }
 }
 
-/// Writes the records of a field, and says where they stand.
+/// Writes the records of a field, and returns where they stand.
 fn put_section<M: Encode>(buffer: &mut Vec<u8>, field: u64, parts: &[M]) -> Place
     requires small { field < 16 }
     requires room { vec_len buffer.old + length (records_text (part_records M.records field parts.now))

@@ -3,10 +3,10 @@ ghost use Rattle.std.specs.Prelude.{◌≡◌, ◌+◌, ◌≤◌, ◌++◌, ◌
 ghost use Rattle.gs_wire.specs.Reading.{varint_at, varint_at_most};
 ghost use Rattle.gs_wire.specs.Varint.{varint, varint_within};
 
-/// The most bytes that a varint takes: ten groups of seven bits hold 64.
+/// The most bytes of a varint: ten groups of seven bits hold 64 bits.
 pub(crate) const MAX_VARINT: u32 = 10;
 
-/// The varint of at most `most` bytes at the front, and how many bytes it takes.
+/// Returns the varint of at most `most` bytes at the front, and how many bytes it takes.
 #[tactic(auto, unfolding(crate::specs::Reading::varint_at_most))]
 fn varint_at_most(most: u32, bytes: &[u8]) -> Option<(u64, usize)>
     ensures value { option_map (λ x. (x.0, drop x.1 bytes.now)) result ≡ varint_at_most most bytes.now }
@@ -25,8 +25,7 @@ fn varint_at_most(most: u32, bytes: &[u8]) -> Option<(u64, usize)>
     Some((number, count + 1))
 }
 
-/// The varint at the front, in any of its spellings, and how many bytes it takes. Most take one or
-/// two.
+/// Returns the varint at the front, in any of its spellings, and how many bytes it takes. Most varints take one or two.
 #[inline(always)]
 #[tactic(auto, unfolding(crate::specs::Reading::varint_at, crate::specs::Reading::varint_at_most))]
 pub(crate) fn varint_at(bytes: &[u8]) -> Option<(u64, usize)>
@@ -45,7 +44,7 @@ pub(crate) fn varint_at(bytes: &[u8]) -> Option<(u64, usize)>
     }
 }
 
-/// How many bytes the shortest spelling of a number takes.
+/// Returns how many bytes the shortest spelling of a number takes.
 pub(crate) fn varint_len(number: u64) -> usize
     ensures { result ≡ length (varint number) }
 {
@@ -58,7 +57,7 @@ pub(crate) fn varint_len(number: u64) -> usize
     len
 }
 
-/// Writes the shortest spelling of a number at the end of a buffer that has the room.
+/// Writes the shortest spelling of a number at the end of a buffer that has room for it.
 pub(crate) fn put_varint(buffer: &mut Vec<u8>, number: u64)
     requires { vec_len buffer.old + length (varint number) ≤ vec_capacity buffer.old }
     ensures written { buffer.new.items ≡ buffer.old.items ++ varint number }

@@ -1,5 +1,5 @@
-//! Bodies, frames and streams with the RPCs that each must spell. A crate is proved once more with its own tests, so these
-//! stand apart from the codec that they call.
+//! Bodies, frames and streams with the RPCs that each must spell. A crate with tests of its own is proved a second time with
+//! them, so these tests have a crate of their own.
 #![tactic(auto)]
 
 #[cfg(test)]

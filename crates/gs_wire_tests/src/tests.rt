@@ -46,7 +46,7 @@ fn publication(alloc: Global, name: &[u8], payload: Bytes) -> Result<Rpc, AllocE
     Ok(rpc)
 }
 
-/// Whether the body is read as the RPC, which is written as the frame.
+/// Says whether the body is read as the RPC, and the RPC is written as the frame.
 fn is_read_and_written(alloc: Global, body: &[u8], rpc: &Rpc, frame: &[u8]) -> bool {
     let mut written = Vec::new(alloc);
     match decode(alloc, body) {
@@ -133,8 +133,8 @@ fn what_spells_no_rpc_is_malformed(rt: HostRuntime) {
     assert!(rt; is_malformed(alloc, b"\x08\x80\x80\x80\x80\x80\x80\x80\x80\x80\x80\x00"));
 }
 
-/// What `publish_len` answers for a payload of this length, and how long its body and its frame are.
-/// Nothing where both are too long, and the buffers are as they were.
+/// Returns what `publish_len` gives for a payload of this length, and how long its body and its frame are. It returns
+/// nothing where both are too long, and the buffers are as they were.
 fn lengths(alloc: Global, len: usize) -> Result<Option<(usize, usize, usize)>, AllocError> {
     let payload = vec![in alloc; 7u8; len]?;
     let named = Topic(Bytes::copy_from_slice(alloc, b"t")?);
@@ -188,7 +188,7 @@ fn each_fault_has_its_text(rt: HostRuntime) -> Result<(), AllocError> {
     Ok(())
 }
 
-/// The laws take nothing and give nothing: that they can be called is all there is to test.
+/// The laws take nothing and give nothing, so the test only calls them.
 #[test]
 fn laws_can_be_called(_rt: HostRuntime) {
     bytes_spell_one_list_of_records();

@@ -1,4 +1,4 @@
--- Lists that are dealt to groups in turns, as cards are.
+-- Lists that are dealt to groups in turns, like cards.
 use Rattle.std.specs.Prelude.{◌≡◌, List, [], ◌∷◌, ◌++◌, map, Vec}
 use Rattle.std.specs.List.{AllByRecursion}
 use Rattle.std.specs.declared.alloc.Global.{Global}
@@ -7,8 +7,8 @@ use Rattle.std.specs.declared.alloc.Global.{Global}
 abbrev pub lists_of : {A : Type 0} → List (Vec A Global) → List (List A)
 lists_of groups = map (λ group. group.items) groups
 
--- R holds of each item of xs and what was dealt for it: for the first, the last of the first group. Without
--- these, and with that group after the others, it holds of the rest
+-- R holds for each item of xs and what was dealt for it. For the first item, that is the last element of the first group. The
+-- same holds for the rest of xs, without that element and with that group after the other groups
 abbrev pub IsDealt : {X Y : Type 0} → (X → Y → Type 0) → List X → List (List Y) → Type 0
 IsDealt R [] groups = AllByRecursion (λ group. group ≡ []) groups
 IsDealt R (x ∷ xs) [] = ⊥

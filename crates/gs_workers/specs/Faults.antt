@@ -11,7 +11,7 @@ abbrev pub flag_in : WorkerFault → FlagId
 flag_in (NoMemory raised) = raised
 flag_in (NoThread raised) = raised
 
--- where a thread was missing, this flag is set
+-- if a thread was missing, this flag is set
 abbrev pub HasSet : FlagId → Want → Type 0
 HasSet flag Memory = Unit {0}
 HasSet flag (Thread raised) = raised ≡ flag

@@ -6,8 +6,8 @@ use Rattle.atomic_table.specs.Seated.{TableId}
 abbrev pub FlagId : Type 0
 FlagId = TableId
 
--- The word of a flag, and what all know who set it or looked at it, one after the other: first those who found it not
--- set, and then those who set it or found it set. It is 0 as long as there are none of these.
+-- The word of a flag, and what each of those knows who checked it or set it, in order. First come those who found it not set.
+-- Then come those who set it or found it set. The word is 0 as long as none of the latter have come.
 pub record IsFlag (words : List ℕ) (views : List Bool) : Type 0 where
   pub word : ℕ
   pub is_word : words ≡ word ∷ []

@@ -1,4 +1,4 @@
--- Futures that run side by side. Each is here with its output once it is done.
+-- Futures that run side by side. Each is kept here with its output once it is done.
 use Rattle.std.specs.Prelude.{List}
 use Rattle.std.specs.List.{AllByRecursion, AllZip}
 use Rattle.futures.specs.Joined.{IsLive, MayGive}
@@ -10,11 +10,11 @@ module _ {F A : Type 0} where
   abbrev pub AllLive : (F → Type 0) → List (MaybeDone F A) → Type 0
   AllLive can_poll members = AllByRecursion (IsLive can_poll) members
 
-  -- the one that goes on may give nothing that the other may not
+  -- `new` may give nothing that `old` may not give
   abbrev pub GivesNoMore : (F → A → Type 0) → MaybeDone F A → MaybeDone F A → Type 0
   GivesNoMore gives old new = (x : A) → MayGive gives new x → MayGive gives old x
 
-  -- the one is done, with an output that the other may give
+  -- the second is done, with an output that the first may give
   abbrev pub EndsAs : (F → A → Type 0) → MaybeDone F A → MaybeDone F A → Type 0
   EndsAs gives m (Done x) = MayGive gives m x
   EndsAs gives m (Future f) = ⊥

@@ -1,4 +1,4 @@
-//! Dealing futures to groups in turns, and gathering what they gave.
+//! Deals futures to groups in turns, and gathers what they gave.
 ghost use Rattle.std.specs.Prelude.{◌≡◌, ◌≤◌, ◌≢◌, IfOk, List, MatchOption, [], ◌∷◌, ◌++◌};
 ghost use Rattle.std.specs.List.{AllByRecursion, AllZip};
 ghost use Rattle.std.specs.VecDeque.{deque_len};
@@ -14,11 +14,11 @@ use std::collections::VecDeque;
 /// The groups that futures are dealt to.
 pub type Groups<F, T> = VecDeque<Vec<MaybeDone<F, T>>>;
 
-/// Deals the futures to `count` groups in turns: the one at place i goes to the group at place
-/// i mod `count`. Each group has those with the lowest places last.
+/// Deals the futures to `count` groups in turns: the one at place i goes to the group at place i mod `count`. In each group those
+/// with the lowest places stand last.
 ///
 /// # Errors
-/// `AllocError` where there was no memory.
+/// `AllocError` if memory runs out.
 pub fn deal<F: Future<Output: Drop>>(
     alloc: Global,
     count: usize,
@@ -51,10 +51,10 @@ fn empty_groups<M: Drop>(alloc: Global, count: usize) -> Result<VecDeque<Vec<M>>
     Ok(groups)
 }
 
-/// Gathers the outputs of futures that were dealt and are done, in the order of the futures.
+/// Returns the outputs of futures that were dealt and are done, in the order of the futures.
 ///
 /// # Errors
-/// `AllocError` where there was no memory.
+/// `AllocError` if memory runs out.
 pub fn gather<F: Future<Output: Drop>>(
     alloc: Global,
     mut groups: Groups<F, F::Output>,
@@ -74,7 +74,7 @@ pub fn gather<F: Future<Output: Drop>>(
     Ok(outputs)
 }
 
-/// Takes the last output out of a group. None where the last future of it is not done, or there is none.
+/// Takes the last output out of a group. It returns None if the group is empty or its last future is not done.
 fn pop_output<F: Drop, T: Drop>(group: &mut Vec<MaybeDone<F, T>>) -> Option<T>
     ensures { MatchOption result ((below : _) (output : T) → group.old.items ≢ below ++ Done output ∷ [])
         (λ output. group.old.items ≡ group.new.items ++ Done output ∷ []) }

@@ -5,10 +5,10 @@ ghost use Rattle.gs_workers.specs.declared.fault.Want.TheVariants.{Memory, Threa
 use crate::stop_flag::Raised;
 use std::alloc::{AllocError, AllocFailed};
 
-/// Why workers give no outputs. Each fault has the evidence that the stop flag was set.
+/// Why workers give no outputs. Each fault contains evidence that the stop flag was set.
 #[derive(Debug, Drop, thiserror::Error)]
 pub enum WorkerFault {
-    /// There was no memory.
+    /// Memory ran out.
     #[error("there was no memory")]
     NoMemory(Raised),
     /// A worker thread could not be started, or could not wait.
@@ -16,7 +16,7 @@ pub enum WorkerFault {
     NoThread(Raised),
 }
 
-/// What was missing while futures ran. The flag is set where a thread was, and not yet where memory was.
+/// What was missing while futures ran. If a thread was missing, the flag is already set. If memory was, it may not be set yet.
 #[derive(Drop)]
 pub enum Want {
     Memory,

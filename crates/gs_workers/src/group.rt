@@ -9,8 +9,8 @@ use futures::future::MaybeDone;
 use futures::task::{Context, Poll};
 use std::{mem, thread};
 
-/// Futures that run side by side, as one future. `T` is their output. Each poll polls each that is
-/// not done, in order. It gives them all, in order, once each is done.
+/// Futures that run side by side, as one future. `T` is their output. A poll polls each of them that is not done, in order. Once
+/// each is done, it gives them all, in order.
 #[derive(Drop)]
 pub struct Group<F, T> {
     pub members: Vec<MaybeDone<F, T>>,
@@ -34,7 +34,7 @@ impl<F: Future<Output: Drop>> Future for Group<F, F::Output> {
     }
 }
 
-/// Polls each member that is not done. True if all are done.
+/// Polls each member that is not done, and returns whether all are done then.
 fn advance_all<F: Future<Output: Drop>>(
     members: &mut [MaybeDone<F, F::Output>],
     cx: &mut Context<'_>,

@@ -23,14 +23,14 @@ impl Play<(), bool> for Look {
     ghost then = { λ _ _ found after. after.0 ≡ not (nat_eq found 0) };
 }
 
-/// Whoever sets the flag knows that it is set.
+/// A setter of the flag knows that it is set.
 struct Setting;
 
 impl Play<(), bool> for Setting {
     ghost then = { λ _ _ _ after. after ≡ (true, []) };
 }
 
-/// A flag that stops tasks. Once somebody set it, it stays set. Contracts see which flag it is.
+/// A flag that stops tasks. Once it was set, it stays set. Contracts see which flag it is.
 #[derive(Drop)]
 pub struct StopFlag {
     table: Table<(), bool, (), Rule, Global>,
@@ -47,7 +47,7 @@ impl Model for StopFlag {
     ghost invariant = { λ s. s.table.shared.table_id.words ≡ 1 };
 }
 
-/// Evidence that a flag was set: only `StopFlag::set` makes it. Contracts see which flag that is.
+/// Evidence that a flag was set. Only `StopFlag::set` makes it. Contracts see which flag that is.
 #[derive(Drop)]
 pub struct Raised {
     badge: Badge<bool>,
@@ -70,7 +70,7 @@ impl Debug for Raised {
     }
 }
 
-/// Evidence that a flag was found set, after somebody set it: only `StopFlag::look` makes it. Contracts see which flag that is.
+/// Evidence that a flag was found set, after somebody set it. Only `StopFlag::look` makes it. Contracts see which flag that is.
 #[derive(Drop)]
 pub struct FoundSet {
     badge: Badge<bool>,
@@ -93,7 +93,7 @@ impl Debug for FoundSet {
     }
 }
 
-/// Evidence that a flag was looked at before anybody set it. Contracts see which flag that is.
+/// Evidence that a flag was checked before anybody set it. Contracts see which flag that is.
 #[derive(Drop)]
 pub struct FoundUnset {
     badge: Badge<bool>,
@@ -117,16 +117,16 @@ impl Debug for FoundUnset {
 }
 
 impl StopFlag {
-    /// A flag that is not set.
+    /// Creates a flag that is not set.
     ///
     /// # Errors
-    /// `AllocError` where there was no memory for it.
+    /// `AllocError` if memory runs out.
     pub fn new(alloc: Global) -> Result<StopFlag, AllocError> {
         let (table, _seat) = Table::of_words(alloc, &[0], &())?;
         Ok(StopFlag { table })
     }
 
-    /// Sets the flag, and gives evidence of that.
+    /// Sets the flag, and returns evidence of that.
     pub fn set(&self) -> Raised
         ensures { result ≡ self.now }
     {
@@ -136,10 +136,10 @@ impl StopFlag {
         }
     }
 
-    /// Looks whether the flag is set, and gives evidence of what it found.
+    /// Checks whether the flag is set, and returns evidence of what it found.
     ///
     /// # Errors
-    /// `FoundSet` where the flag is set.
+    /// `FoundSet` if the flag is set.
     pub fn look(&self) -> Result<FoundUnset, FoundSet>
         ensures { MatchResult result (λ unset. unset ≡ self.now) (λ set. set ≡ self.now) }
     {
@@ -154,7 +154,7 @@ impl StopFlag {
         })
     }
 
-    /// Whether the flag is set.
+    /// Says whether the flag is set.
     pub fn is_set(&self) -> bool {
         self.look().is_err()
     }

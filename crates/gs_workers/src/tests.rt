@@ -45,7 +45,7 @@ fn no_futures_give_no_outputs(rt: HostRuntime) {
     }
 }
 
-/// There is no memory for this many workers; the flag is set.
+/// Memory runs out for this many workers, and the flag is set.
 #[test]
 fn too_many_workers_are_want_of_memory(rt: HostRuntime) -> Result<(), AllocError> {
     let stop = StopFlag::new(rt.alloc())?;
@@ -117,7 +117,7 @@ fn workers_run_side_by_side(rt: HostRuntime) -> Result<(), AllocError> {
     Ok(())
 }
 
-/// Five futures and two groups: the last of a group is the first that was dealt to it.
+/// Five futures and two groups. The last future of a group is the one with the lowest place.
 #[test]
 fn futures_are_dealt_in_turns(rt: HostRuntime) -> Result<(), Fail> {
     let mut groups = deal(rt.alloc(), 2, first_numbers(rt.alloc(), 5)?)?;

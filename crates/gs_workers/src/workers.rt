@@ -23,13 +23,13 @@ use std::sync::Wait;
 use std::thread;
 use std::thread::{Promise, PromisedHandle, Scope, Threads};
 
-/// A group whose futures are all done. Where its thread could not wait there is none, and the flag is set.
+/// A group whose futures are all done. If its thread could not wait, there is no group, and the flag is set.
 type Driven<F, T> = Result<Vec<MaybeDone<F, T>>, Raised>;
 
 /// A worker that is still to be joined.
 type Worker<F, T> = PromisedHandle<Driven<F, T>, OfGroup<F, T>>;
 
-/// What a worker promises of its group and its flag: each future of the group gives what it may give, or the flag is set.
+/// What a worker promises about its group and its flag. Each future of the group gives what it may give, or the flag is set.
 #[derive(Drop)]
 struct OfGroup<F, T>(Snapshot<Vec<MaybeDone<F, T>>>, Snapshot<StopFlag>);
 
@@ -48,12 +48,12 @@ pub struct Ran<T> {
     pub threads: usize,
 }
 
-/// Runs the futures on `workers` threads to their ends, and gives their outputs in order. The one at
-/// place i runs on thread i mod `workers`. No thread runs on after the call.
+/// Runs the futures on `workers` threads to their ends, and returns their outputs in order. The future at place i runs on thread
+/// i mod `workers`. No thread still runs after the call.
 ///
 /// # Errors
-/// `NoMemory`, and `NoThread` where a thread could not be started or could not wait; the flag is set
-/// before the threads are joined that were started.
+/// `NoMemory` if memory runs out, and `NoThread` if a thread could not be started or could not wait. The flag is set before the
+/// threads that still run are joined.
 pub fn run_all<F, R>(
     rt: &R,
     workers: usize,
@@ -87,7 +87,7 @@ where
     )
 }
 
-/// `run_all` within a scope, which joins what is not joined here.
+/// `run_all` within a scope. The scope joins the threads that are not joined here.
 fn run_in<'s, E, F, R>(
     scope: &Scope<'s, E>,
     rt: &'s R,
@@ -139,7 +139,7 @@ where
 /// Starts a worker for each group, in a list that has room for them.
 ///
 /// # Errors
-/// `Raised` where a thread could not be started.
+/// `Raised` if a thread could not be started.
 fn start_all<'s, E, F, R>(
     scope: &Scope<'s, E>,
     rt: &'s R,
@@ -175,7 +175,7 @@ where
 /// Drives a group to its end on this thread.
 ///
 /// # Errors
-/// `Raised` where the thread could not wait.
+/// `Raised` if the thread could not wait.
 fn drive<F, R>(
     rt: &R,
     stop: &StopFlag,
@@ -194,7 +194,7 @@ where
     }
 }
 
-/// Joins the workers, and gives their groups in order.
+/// Joins the workers, and returns their groups in order.
 fn join_all<F, R>(
     rt: &R,
     alloc: Global,

@@ -93,7 +93,7 @@ const LINE_BY_H: &[&str] = &[
     "</g>\n</svg>\n",
 ];
 
-/// By `x` and names that nobody has, of which only a front is shown: `x` is no subscriber of what it publishes.
+/// By `x` and names that nobody has. Only a front of the names is shown. `x` is no subscriber of what it publishes.
 const LINE_BY_X: &[&str] = &[
     OPENING,
     STYLE,
@@ -128,8 +128,8 @@ x,&lt;&amp;&gt;,3456789,3456789,3456789,12.. that each message reached</text>
     "</g>\n</svg>\n",
 ];
 
-/// Twelve peers in a row, each of whom has agreed with the next to pass on all that is accepted. So a message takes a round from
-/// one to the next. `p0` and `p5` publish.
+/// Twelve peers in a row. Each has agreed with the next to pass on all that is accepted. So a message takes a round from one
+/// to the next. `p0` and `p5` publish.
 const CHAIN: &str = "round_ms = 100\nrounds = 20\nworkers = 1\ncapacity = 1\nseed = 1\n\
     topic = [{ name = \"news\" }]\n\
     peer = [{ name = \"p0\" }, { name = \"p1\" }, { name = \"p2\" }, { name = \"p3\" }, \

@@ -23,7 +23,7 @@ struct Case {
     text: &'static str,
 }
 
-/// No neighbour has anything to be said of.
+/// There is nothing to report about any neighbour.
 const NOTHING: &str = "no neighbour scored below 0, and nothing came to nothing\n";
 
 static CASES: [Case; 7] = [

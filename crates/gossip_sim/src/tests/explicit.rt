@@ -19,8 +19,8 @@ const B_DISTRUSTS: &str = "[[app]]\npeer = \"b\"\nabout = \"a\"\nvalue = -100000
 /// `b` scores -50.000001 with `a`, below the threshold of publishing.
 const A_DISTRUSTS: &str = "[[app]]\npeer = \"a\"\nabout = \"b\"\nvalue = -50000001\n";
 
-/// What comes of two peers that subscribe in one round, so that neither grafts the other before the heartbeat in round 10.
-/// `a` publishes in round 2.
+/// What happens to two peers that subscribe in one round. So neither grafts the other before the heartbeat in round 10. `a`
+/// publishes in round 2.
 struct Case {
     name: &'static str,
     parts: &'static [&'static str],

@@ -36,9 +36,9 @@ fn a_rejected_message_costs_its_sender_until_it_decays(rt: HostRuntime) -> Resul
     Ok(())
 }
 
-/// What the application of one peer gives the other: whose, about whom, and how much; and whether `b` still gets what
-/// `a` publishes. A peer gets nothing of one that it scores below -80, nor of one that scores it below -50. Nobody
-/// grafts a peer that it scores below 0; the other does, in the last round, and its GRAFT comes late.
+/// The score that the application of one peer gives the other: the giver, the other and the score; and whether `b` still
+/// gets what `a` publishes. A peer gets nothing from one that it scores below -80, or from one that scores it below -50.
+/// Nobody grafts a peer that it scores below 0; the other does, in the last round, and its GRAFT comes late.
 static STANDINGS: [(&str, &str, &str, bool, &str); 5] = [
     (
         "b",

@@ -1,9 +1,9 @@
-//! Figures without zeros, each number beside the name of its column. So a text that is worked out by hand need not name
-//! each column that there is.
+//! Figures without zeros, each number with the name of its column. So a text that is worked out by hand need not name all
+//! columns.
 use std::alloc::{AllocError, Global};
 
-/// What CSV says: a line for each row, and an empty one between two tables. A cell of 0 and a score of 0 are left out, but
-/// for the first of a row. Each other one stands there as `name=cell`.
+/// What CSV says: a line for each row, and an empty one between two tables. A cell of 0 and a score of 0 are left out,
+/// except in the first cell of a row. The other cells are written in the form `name=cell`.
 pub(crate) fn named_in_csv(alloc: Global, csv: &[u8]) -> Result<String, AllocError> {
     let mut text = String::new(alloc);
     for table in str::from_utf8(csv).unwrap_or("no UTF-8").split("\n\n") {

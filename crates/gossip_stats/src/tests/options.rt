@@ -7,7 +7,7 @@ use std::test::*;
 const USAGE: &str =
     "usage: gossip_stats [--by PEERS | --rounds | --topics | --links] [--of PEERS] [--group NAME=PEERS].. [--csv | --json]\n";
 
-/// Arguments, and what they ask for: by whom, of whom, the subject, the form, and the groups.
+/// Arguments, and what they ask for: the publishers, the peers, the subject, the form and the groups.
 struct Case {
     words: &'static [&'static str],
     asked: &'static str,

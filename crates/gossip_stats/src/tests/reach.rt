@@ -113,8 +113,8 @@ pairs,first_round,median_round,round_90,round_99,last_round
 
 peer,";
 
-/// The rejected payload is in no pair, and nobody missed it. That of both publishers has no subscriber, as each has it. The last one has none, as
-/// nobody could know of its subscriber.
+/// The rejected payload is in no pair, and nobody missed it. That of both publishers has no subscriber, because each has it.
+/// The last one has none, because nobody could know about its subscriber.
 const NOT_MISLED: &str = "\
 topic,payload,publisher,verdict,publishers,at_ms,subscribers,reached,missed,first_round,median_round,round_90,last_round
 \"news\",\"aa\",\"a\",\"accept\",1,200,1,1,0,1,1,1,1
@@ -132,8 +132,8 @@ pairs,first_round,median_round,round_90,round_99,last_round
 
 peer,";
 
-/// What `news` rejects reached `b` in the round of its publication. It and what `news` ignores should reach nobody, so nobody
-/// missed them. The accepted one has no subscriber, as `a` is on no topic: there are no pairs.
+/// What `news` rejects reached `b` in the round of its publication. It and what `news` ignores should reach nobody, so
+/// nobody missed them. The accepted one has no subscriber, because `a` is on no topic. So there are no pairs.
 const LEAKED_TABLES: &str = "\
 How far each message came
 topic  payload  from  verdict  publishers  at_ms  subscribers  reached  missed  first  median  90%  last

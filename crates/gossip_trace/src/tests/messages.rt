@@ -103,8 +103,8 @@ const OF_B_WHO_HEARS_TWICE: &str = "\
 \"id\":\"ba7816bf8f01cfea414140de5dae2223b00361a396177a9cb410ff61f20015ad\"}],\"fell_away\":[]}
 ";
 
-/// `b` rejects `bad` at 400. The decay of that moment leaves nothing of it, and comes before the heartbeat. So `a`
-/// stays in the mesh.
+/// `b` rejects `bad` at 400. The decay at that moment brings its counter to 0, and comes before the heartbeat. So `a` stays
+/// in the mesh.
 const DECAYING: &str = "\
 round_ms = 100
 rounds = 4

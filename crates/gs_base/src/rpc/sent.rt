@@ -12,20 +12,20 @@ use crate::seq::Seq;
 use bytes::Bytes;
 use std::alloc::{AllocError, Global};
 
-/// The longest backoff that is asked for, or heeded, in seconds.
+/// The longest backoff that a router asks for or obeys, in seconds.
 pub const LONGEST_BACKOFF: u64 = 86_400;
 
 /// The most identifiers in an offer or a request.
 pub const MOST_IDENTIFIERS: u64 = 5_000;
 
-/// The limits of RPCs are those of the definitions.
+/// The limits of RPCs in code equal those in the definitions.
 pub fn limits_of_rpcs()
     ensures backoff { LONGEST_BACKOFF ≡ longest_backoff }
     ensures identifiers { MOST_IDENTIFIERS ≡ most_identifiers }
 {}
 
 impl Rpc {
-    /// An RPC that says nothing. It takes no memory.
+    /// Returns an RPC that says nothing. It takes no memory.
     pub fn empty(alloc: Global) -> Rpc
         ensures { result ≡ empty_rpc }
     {
@@ -36,10 +36,10 @@ impl Rpc {
         }
     }
 
-    /// An RPC that says that its sender subscribes to a topic or leaves it.
+    /// Returns an RPC that says that its sender subscribes to a topic or leaves it.
     ///
     /// # Errors
-    /// `AllocError` where there was no memory for it.
+    /// `AllocError` when out of memory.
     pub fn announcement(alloc: Global, subscribes: bool, topic: &Topic) -> Result<Rpc, AllocError>
         ensures { IfOk result (λ rpc. rpc ≡ announcement subscribes topic.now) }
     {
@@ -53,10 +53,10 @@ impl Rpc {
         })
     }
 
-    /// An RPC that publishes one message under StrictNoSign. It shares the payload.
+    /// Returns an RPC that publishes one message under StrictNoSign. It shares the payload.
     ///
     /// # Errors
-    /// `AllocError` where there was no memory for it.
+    /// `AllocError` when out of memory.
     pub fn publication(alloc: Global, topic: &Topic, payload: &Bytes) -> Result<Rpc, AllocError>
         ensures { IfOk result (λ rpc. rpc ≡ publication topic.now payload.now) }
     {
@@ -67,10 +67,10 @@ impl Rpc {
         })
     }
 
-    /// A message by itself, as it was heard. It shares the payload.
+    /// Returns an RPC with only one message, as it was heard. It shares the payload.
     ///
     /// # Errors
-    /// `AllocError` where there was no memory for it.
+    /// `AllocError` when out of memory.
     pub fn passed_on(alloc: Global, message: &Message) -> Result<Rpc, AllocError>
         ensures { IfOk result (λ rpc. rpc ≡ passed_on message.now) }
     {
@@ -80,11 +80,11 @@ impl Rpc {
         })
     }
 
-    /// An offer of messages on a topic (gossipsub v1.0, "Control messages", IHAVE). Its identifiers share one block of
-    /// memory.
+    /// Returns an offer of messages on a topic (gossipsub v1.0, "Control messages", IHAVE). Its identifiers share one block
+    /// of memory.
     ///
     /// # Errors
-    /// `AllocError` where there was no memory for it.
+    /// `AllocError` when out of memory.
     pub fn offering(alloc: Global, topic: &Topic, ids: &[MsgId]) -> Result<Rpc, AllocError>
         ensures { IfOk result (λ rpc. rpc ≡ offering topic.now (map (λ (id : MsgIdValue). id.0) ids.now)) }
     {
@@ -99,10 +99,10 @@ impl Rpc {
         Ok(control_only(alloc, control))
     }
 
-    /// A request for messages (gossipsub v1.0, "Control messages", IWANT).
+    /// Returns a request for messages (gossipsub v1.0, "Control messages", IWANT).
     ///
     /// # Errors
-    /// `AllocError` where there was no memory for it.
+    /// `AllocError` when out of memory.
     pub fn requesting(alloc: Global, ids: Seq<Bytes>) -> Result<Rpc, AllocError>
         ensures { IfOk result (λ rpc. rpc ≡ requesting ids) }
     {
@@ -113,10 +113,10 @@ impl Rpc {
         Ok(control_only(alloc, control))
     }
 
-    /// An RPC that says that its receiver was grafted (gossipsub v1.0, "Control messages", GRAFT).
+    /// Returns an RPC that says that its receiver was grafted (gossipsub v1.0, "Control messages", GRAFT).
     ///
     /// # Errors
-    /// `AllocError` where there was no memory for it.
+    /// `AllocError` when out of memory.
     pub fn grafting(alloc: Global, topic: &Topic) -> Result<Rpc, AllocError>
         ensures { IfOk result (λ rpc. rpc ≡ grafting topic.now) }
     {
@@ -130,11 +130,11 @@ impl Rpc {
         Ok(control_only(alloc, control))
     }
 
-    /// An RPC that says that its receiver was pruned, and for how many seconds it is not to come back: at most
+    /// Returns an RPC that says that its receiver was pruned, and for how many seconds it must not come back: at most
     /// `LONGEST_BACKOFF` (gossipsub v1.1, "Prune Backoff").
     ///
     /// # Errors
-    /// `AllocError` where there was no memory for it.
+    /// `AllocError` when out of memory.
     pub fn pruning(alloc: Global, topic: &Topic, seconds: u64) -> Result<Rpc, AllocError>
         ensures { IfOk result (λ rpc. rpc ≡ pruning topic.now seconds) }
     {
@@ -150,7 +150,7 @@ impl Rpc {
     }
 }
 
-/// An RPC with control messages only.
+/// Returns an RPC with control messages only.
 fn control_only(alloc: Global, control: Control) -> Rpc
     ensures { result ≡ record empty_rpc { control = Some control } }
 {
@@ -160,7 +160,7 @@ fn control_only(alloc: Global, control: Control) -> Rpc
     }
 }
 
-/// The bytes of each identifier, which all share one block.
+/// Returns the bytes of each identifier, which all share one block.
 fn in_one_block(alloc: Global, ids: &[MsgId]) -> Result<Seq<Bytes>, AllocError>
     ensures { IfOk result (λ list. list ≡ map (λ (id : MsgIdValue). id.0) ids.now) }
 {
@@ -173,7 +173,7 @@ fn in_one_block(alloc: Global, ids: &[MsgId]) -> Result<Seq<Bytes>, AllocError>
     Ok(Seq::from(list))
 }
 
-/// The bytes of all identifiers, one after the other.
+/// Returns the bytes of all identifiers, one after the other.
 fn joined(alloc: Global, ids: &[MsgId]) -> Result<Vec<u8>, AllocError>
     ensures { IfOk result (λ block. block.items ≡ flat_map (λ (id : MsgIdValue). id.0) ids.now) }
 {

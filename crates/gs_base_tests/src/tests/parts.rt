@@ -63,7 +63,7 @@ fn control(alloc: Global) -> Result<Control, AllocError> {
 /// The lists of control messages, as they are named where they are shown.
 static CONTROL_LISTS: [&str; 4] = ["ihave", "iwant", "graft", "prune"];
 
-/// Control messages of which one list holds these items, as they are shown.
+/// Control messages with these items in one list, as they are shown.
 pub fn control_text(alloc: Global, wanted: &str, items: &str) -> Result<String, AllocError> {
     let mut text = String::from_str(alloc, "Control {")?;
     for list in &CONTROL_LISTS {

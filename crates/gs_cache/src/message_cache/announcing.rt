@@ -8,7 +8,7 @@ use crate::message_cache::window::Window;
 use gs_base::{MOST_IDENTIFIERS, MsgId, Topic};
 use std::alloc::{AllocError, Global};
 
-/// How many identifiers of a topic are announced at once at most: as many as one IHAVE may have.
+/// The most identifiers of a topic that are announced at once: as many as one IHAVE may have.
 pub const MOST_ANNOUNCED: usize = MOST_IDENTIFIERS as usize;
 
 /// A window whose identifiers are listed, the windows that are newer, and the topic.
@@ -19,11 +19,11 @@ struct Listing<'a> {
     topic: &'a Topic,
 }
 
-/// The identifiers to announce on a topic, of the messages in the `gossip` newest windows: the last
+/// Returns the identifiers to announce on a topic, from the messages in the `gossip` newest windows. They are the last
 /// `MOST_ANNOUNCED`, in the order of their last puts.
 ///
 /// # Errors
-/// `AllocError` where there was no memory.
+/// `AllocError` if memory runs out.
 pub fn announce(
     alloc: Global,
     windows: &[Window],
@@ -57,7 +57,7 @@ fn keep_last(ids: &mut Vec<MsgId>)
     ids.truncate(kept);
 }
 
-/// Whether anything of the `gossip` newest windows is announced on a topic.
+/// Says whether anything in the `gossip` newest windows is announced on a topic.
 pub fn announces_any(windows: &[Window], gossip: usize, topic: &Topic) -> bool
     ensures { result ≡ not (length (announced_in 0 gossip topic.now windows.now) == 0) }
 {
@@ -91,7 +91,7 @@ fn lists_any(listing: Listing<'_>) -> bool
 /// Lists the identifiers of a window that are announced.
 ///
 /// # Errors
-/// `AllocError` where there was no memory.
+/// `AllocError` if memory runs out.
 fn list_window(ids: &mut Vec<MsgId>, listing: Listing<'_>) -> Result<(), AllocError>
     ensures { OnOk result (ids.new.items
         ≡ ids.old.items ++ listed listing.entry.newer.now listing.entry.window.now listing.entry.topic.now) }
@@ -102,10 +102,10 @@ fn list_window(ids: &mut Vec<MsgId>, listing: Listing<'_>) -> Result<(), AllocEr
     Ok(())
 }
 
-/// Lists an identifier that stands at a place of a window, where it is announced.
+/// Lists an identifier that stands at a place of a window, if it is announced.
 ///
 /// # Errors
-/// `AllocError` where there was no memory.
+/// `AllocError` if memory runs out.
 fn list_one(
     ids: &mut Vec<MsgId>,
     listing: Listing<'_>,

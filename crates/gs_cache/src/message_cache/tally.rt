@@ -8,8 +8,8 @@ use indexmap::IndexMap;
 use std::alloc::{AllocError, Global};
 use std::marker::Model;
 
-/// How many answers are left to the neighbours that got one. To all others as many are left as each gets. What is left
-/// counts down to 0, so no count can overflow.
+/// How many answers are left to the neighbours that got one. All others have as many left as each neighbour gets. What is
+/// left counts down to 0, so no count can overflow.
 #[derive(Drop)]
 pub struct Tally {
     left: IndexMap<PeerNo, u64>,
@@ -25,7 +25,7 @@ impl Model for Tally {
 }
 
 impl Tally {
-    /// Nobody got an answer. It takes no memory.
+    /// Returns a tally in which nobody got an answer. It takes no memory.
     pub fn new(alloc: Global) -> Tally
         ensures { result ≡ [] }
     {
@@ -34,17 +34,17 @@ impl Tally {
         }
     }
 
-    /// How many answers are left to a neighbour, where each gets `answers`.
+    /// Returns how many answers are left to a neighbour, if each gets `answers`.
     pub fn left_to(&self, peer: PeerNo, answers: u64) -> u64
         ensures { result ≡ left_to answers peer self.now }
     {
         self.left.get(&peer).copied().unwrap_or(answers)
     }
 
-    /// Counts an answer to a neighbour: one less is left to it, where one is.
+    /// Counts an answer to a neighbour: one less is left to it, if any is.
     ///
     /// # Errors
-    /// `AllocError` where there was no memory; nothing is changed then.
+    /// `AllocError` if memory runs out. Nothing is changed then.
     pub fn count(&mut self, peer: PeerNo, answers: u64) -> Result<(), AllocError>
         ensures counts { OnOk result ((q : PeerNoValue)
             → left_to answers q self.new

@@ -7,7 +7,7 @@ use gs_base::{Message, MsgId, PeerNo, SharedPart, Topic};
 use indexmap::IndexMap;
 use std::alloc::{AllocError, Global};
 
-/// What is kept of a message that was put.
+/// What is kept about a message that was put.
 #[derive(Drop)]
 pub struct Kept {
     /// Its place in the order of the puts.
@@ -20,14 +20,14 @@ pub struct Kept {
 /// The messages that were put between two shifts.
 #[derive(Drop)]
 pub struct Window {
-    /// The identifiers in the order of the puts. Where a message was put again, only its last place counts.
+    /// The identifiers in the order of the puts. If a message was put again, only its last place counts.
     pub order: Vec<MsgId>,
-    /// What is kept of each message, by its identifier.
+    /// What is kept about each message, by its identifier.
     pub puts: IndexMap<MsgId, Kept>,
 }
 
 impl Window {
-    /// No message. It takes no memory.
+    /// Returns a window without messages. It takes no memory.
     pub fn new(alloc: Global) -> Window
         ensures order { result.order.items ≡ [] }
         ensures puts { result.puts.entries ≡ [] }
@@ -38,17 +38,17 @@ impl Window {
         }
     }
 
-    /// Whether it has a message.
+    /// Says whether the window has a message.
     pub fn has(&self, id: &MsgId) -> bool
         ensures { result ≡ has self.now id.now }
     {
         self.puts.contains_key(id)
     }
 
-    /// Puts a message, in the place of an earlier put of it.
+    /// Puts a message. It replaces an earlier put of the same message.
     ///
     /// # Errors
-    /// `AllocError` where there was no memory; nothing is changed then.
+    /// `AllocError` if memory runs out. Nothing is changed then.
     pub fn put(
         &mut self,
         alloc: Global,
@@ -71,10 +71,10 @@ impl Window {
         Ok(())
     }
 
-    /// Counts an answer to a neighbour, where it has the message.
+    /// Counts an answer to a neighbour, if the window has the message.
     ///
     /// # Errors
-    /// `AllocError` where there was no memory; nothing is changed then.
+    /// `AllocError` if memory runs out. Nothing is changed then.
     pub fn count_answer(&mut self, id: &MsgId, peer: PeerNo, answers: u64) -> Result<(), AllocError>
         ensures counts { OnOk result (Counts answers id.now peer self.old self.new) }
         ensures err { OnErr result (HasSame self.old self.new) }
@@ -89,7 +89,7 @@ impl Window {
     }
 }
 
-/// What the first of the windows that has a message keeps of it.
+/// Returns what is kept about a message by the first of the windows that has it.
 pub fn find<'a>(windows: &'a [Window], id: &MsgId) -> Option<&'a Kept>
     ensures { option_copied result ≡ kept_in windows.now id.now }
 {
@@ -101,7 +101,7 @@ pub fn find<'a>(windows: &'a [Window], id: &MsgId) -> Option<&'a Kept>
     None
 }
 
-/// The place of the first window that has a message.
+/// Returns the place of the first window that has a message.
 pub fn age_of(windows: &[Window], id: &MsgId) -> Option<usize>
     ensures { result ≡ position (λ w. has w id.now) windows.now }
 {

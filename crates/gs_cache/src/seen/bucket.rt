@@ -17,7 +17,7 @@ pub struct Bucket {
     pub sightings: IndexMap<MsgId, Sighting>,
 }
 
-/// Whether a moment is a time ago or more.
+/// Says whether a moment is a given time ago or more.
 pub fn is_past(moment: Millis, ttl: Millis, now: Millis) -> bool
     ensures { result ≡ nat_le ttl.0 (now.0 - moment.0) }
 {
@@ -25,7 +25,7 @@ pub fn is_past(moment: Millis, ttl: Millis, now: Millis) -> bool
 }
 
 impl Bucket {
-    /// No sightings, from a moment on. It takes no memory.
+    /// Returns a bucket without sightings, which begins at a moment. It takes no memory.
     pub fn new(alloc: Global, first: Millis) -> Bucket
         ensures first { result.first ≡ first }
         ensures last { result.last ≡ first }
@@ -38,10 +38,10 @@ impl Bucket {
         }
     }
 
-    /// One sighting, in a bucket that begins with it.
+    /// Returns a bucket with one sighting, at which the bucket begins.
     ///
     /// # Errors
-    /// `AllocError` where there was no memory.
+    /// `AllocError` if memory runs out.
     pub fn of(alloc: Global, id: MsgId, sighting: Sighting) -> Result<Bucket, AllocError>
         ensures one { IfOk result (λ bucket. (other : MsgIdValue)
             → sighting_in bucket other ≡ put id sighting other None) }
@@ -58,10 +58,10 @@ impl Bucket {
         })
     }
 
-    /// Puts a sighting, which is now the last one, in the place of an earlier one of the message.
+    /// Puts a sighting, which is now the last one. It replaces an earlier one of the same message.
     ///
     /// # Errors
-    /// `AllocError` where there was no memory; nothing is changed then.
+    /// `AllocError` if memory runs out. Nothing is changed then.
     pub fn put(&mut self, id: MsgId, sighting: Sighting) -> Result<(), AllocError>
         ensures puts { OnOk result (Becomes (put id sighting) self.old.first sighting.at self.old self.new) }
         ensures err { OnErr result (IsUnchanged self.old self.new) }
@@ -75,7 +75,7 @@ impl Bucket {
     /// Notes a neighbour at the sighting of a message, and says whether there is one.
     ///
     /// # Errors
-    /// `AllocError` where there was no memory; nothing is changed then.
+    /// `AllocError` if memory runs out. Nothing is changed then.
     pub fn note(&mut self, id: &MsgId, peer: PeerNo) -> Result<bool, AllocError>
         ensures found { IfOk result (λ found. found ≡ is_some (sighting_in self.old id.now)) }
         ensures none { IfOk result (λ found. found ≡ false → IsUnchanged self.old self.new) }
@@ -91,7 +91,7 @@ impl Bucket {
         }
     }
 
-    /// Forgets all sightings, where the last of them counts no more, and gives their memory back.
+    /// Forgets all sightings and frees their memory, if the last of them no longer counts.
     pub fn forget(&mut self, alloc: Global, ttl: Millis, now: Millis)
         requires { Spans ttl.0 self.old }
         ensures { Forgets ttl.0 now.0 self.old self.new }
@@ -101,11 +101,11 @@ impl Bucket {
         }
     }
 
-    /// Takes a sighting, or, where the bucket began the time ago or more, into a bucket of its own: that is then the
-    /// newer one, this is the older one, and what the older one held counts no more.
+    /// Takes a sighting into this bucket. If this bucket began the given time ago or more, the sighting gets a new bucket
+    /// instead. The new bucket is then the newer one, and this one the older one. What the older one held no longer counts.
     ///
     /// # Errors
-    /// `AllocError` where there was no memory; nothing is changed then.
+    /// `AllocError` if memory runs out. Nothing is changed then.
     pub fn take(
         &mut self,
         alloc: Global,

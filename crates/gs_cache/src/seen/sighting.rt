@@ -16,17 +16,17 @@ pub struct Sighting {
 }
 
 impl Sighting {
-    /// Whether it is at most `window` milliseconds old, and the neighbour was not noted since.
+    /// Says whether it is at most `window` milliseconds old, and the neighbour was not noted since.
     pub fn is_near(&self, peer: PeerNo, now: Millis, window: Millis) -> bool
         ensures { result ≡ is_near_in peer now.0 window.0 (Some self.now) }
     {
         now.0.saturating_sub(self.at.0) <= window.0 && !self.noted.as_slice().contains(&peer)
     }
 
-    /// Notes a neighbour, unless it is noted already.
+    /// Notes a neighbour, unless it is already noted.
     ///
     /// # Errors
-    /// `AllocError` where there was no memory; nothing is changed then.
+    /// `AllocError` if memory runs out. Nothing is changed then.
     pub(crate) fn note(&mut self, peer: PeerNo) -> Result<(), AllocError>
         ensures notes { OnOk result (self.new ≡ with_noted peer self.old) }
         ensures unchanged { OnErr result (self.new ≡ self.old) }

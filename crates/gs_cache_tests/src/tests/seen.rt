@@ -34,7 +34,7 @@ fn a_mark_counts_for_less_than_the_time(rt: HostRuntime) -> Result<(), AllocErro
     Ok(())
 }
 
-/// The second mark, in the second bucket, stands in the place of the first, which is dropped at 1,950.
+/// The second mark is in the second bucket. It replaces the first one, which is dropped at 1,950.
 fn is_marked_anew(cache: &mut SeenCache) -> Result<bool, AllocError>
     requires fresh { cache.old.moment ≡ 0 }
 {

@@ -9,11 +9,11 @@ use gs_scenario::TableKind;
 use std::alloc::{AllocError, Global};
 use strsim::osa_distance;
 
-/// A longer key is near none that is known.
+/// A key that is longer than this is near no known key.
 const LONGEST_NEAR: usize = 40;
 
-/// A key that a scenario must have: the list that its table stands in (or nothing, for the top
-/// table), its name, and what it holds.
+/// A key that a scenario must have. It has the list in which its table stands (nothing for the top table), its name, and
+/// what it holds.
 type Required = (&'static str, &'static str, &'static str);
 
 static REQUIRED: [Required; 22] = [
@@ -77,7 +77,7 @@ static REQUIRED: [Required; 22] = [
     ),
 ];
 
-/// The last part of a place: what stands after its first point, or the whole of it.
+/// Returns the last part of a place: what follows its first point, or all of it where it has no point.
 pub fn key_of(place: &str) -> &str
     ensures { result.now ≡ key_of place.now }
 {
@@ -87,7 +87,7 @@ pub fn key_of(place: &str) -> &str
     }
 }
 
-/// The list of the top table that a place lies in, or nothing.
+/// Returns the list of the top table in which a place lies, or nothing.
 fn list_of(place: &str) -> &str {
     match place.split_once('[') {
         Some((list, _)) => list,
@@ -95,7 +95,7 @@ fn list_of(place: &str) -> &str {
     }
 }
 
-/// That a required key is missing, and what it would hold.
+/// Says that a required key is missing, and what it would hold.
 pub fn missing(alloc: Global, place: &str) -> Result<String, AllocError> {
     let row = REQUIRED
         .iter()
@@ -107,7 +107,7 @@ pub fn missing(alloc: Global, place: &str) -> Result<String, AllocError> {
     }
 }
 
-/// That a key is not known, and which known one is near.
+/// Says that a key is not known, and which known key is near.
 pub fn unknown(alloc: Global, place: &str, kind: TableKind) -> Result<String, AllocError>
     ensures { is_plain_text place.now ≡ true → IfOk result (λ text. SaysUnknown place.now kind (string_bytes text)) }
 {
@@ -137,7 +137,7 @@ fn is_no_key(alloc: Global, place: &str) -> Result<String, AllocError>
     Ok(format!(in alloc; "{shown} is no key of ")?)
 }
 
-/// A place as it is shown.
+/// Returns a place as it is shown.
 fn shown_place(alloc: Global, place: &str) -> Result<String, AllocError>
     ensures { is_plain_text place.now ≡ true → IfOk result (λ text. string_bytes text ≡ plain_place place.now) }
 {
@@ -154,7 +154,7 @@ fn suggestion(alloc: Global, near: Option<&'static str>) -> Result<String, Alloc
     }
 }
 
-/// The key that a place in a table of a kind names. A key of the top table may have points.
+/// Returns the key that a place names in a table of this kind. A key of the top table may have points.
 fn key_in(kind: TableKind, place: &str) -> &str
     ensures { result.now ≡ key_in kind place.now }
 {
@@ -182,9 +182,9 @@ fn table_words(kind: TableKind) -> &'static str
     }
 }
 
-/// The known key that fewest edits lead to, the first of several; none where those are more than a
-/// third of the bytes of the longer key. An edit puts a character in, leaves one out, changes one, or
-/// swaps two that stand side by side.
+/// Returns the known key that is the fewest edits away, and the first of several. There is none where that takes more edits
+/// than a third of the bytes of the longer key. An edit inserts a character, deletes one, changes one, or swaps two adjacent
+/// ones.
 fn nearest(
     alloc: Global,
     key: &str,
@@ -206,7 +206,7 @@ fn nearest(
     Ok(nearest.name)
 }
 
-/// A known key, and how many edits lead to it.
+/// A known key, and how many edits away it is.
 #[derive(Clone, Copy)]
 struct Candidate {
     name: Option<&'static str>,
@@ -214,7 +214,7 @@ struct Candidate {
 }
 
 impl Candidate {
-    /// This one, or the next one where that is nearer: this many edits lead to it.
+    /// Returns this candidate, or the named one where fewer edits lead to it.
     fn or(self, key: &str, name: &'static str, count: usize) -> Candidate
         requires short { length key.now ≤ 40 }
         requires edits { count ≡ edits key.now name.now }

@@ -1,14 +1,14 @@
-//! Names that stand for nothing, and what stands for the second time.
+//! Names that nothing has, and values that repeat an earlier one.
 use crate::shown::{Quoted, Ticked};
 use gs_scenario::NameKind;
 use std::alloc::{AllocError, Global};
 use std::fmt;
 use toml::{Table, Value};
 
-/// What is said of a peer that is no neighbour.
+/// What is wrong with a peer that is no neighbour.
 const NO_DIAL: &str = "that peer is no neighbour, since no dial joins the two";
 
-/// That nothing has a name that may stand at a place of these bytes.
+/// Says that nothing has the name that stands at a place of these bytes.
 pub fn unknown_name(
     alloc: Global,
     bytes: &[u8],
@@ -25,7 +25,7 @@ pub fn unknown_name(
     format!(in alloc; "{place} is {name}: {why}\n")
 }
 
-/// That a peer is no neighbour of the one that the same table names. Which one that is, the refusal doesn't say: it
+/// Says that a peer is no neighbour of the peer that the same table names. The refusal doesn't say which peer that is, so it
 /// is read again.
 fn no_neighbour(
     alloc: Global,
@@ -48,7 +48,7 @@ fn no_neighbour(
     }
 }
 
-/// Why the peer with a name is no neighbour, and who is one.
+/// Why the peer with this name is no neighbour, and which peers are.
 #[derive(Clone, Copy)]
 struct NoNeighbour<'a> {
     top: &'a Table,
@@ -74,7 +74,7 @@ impl<'a> fmt::Display for NoNeighbour<'a> {
     }
 }
 
-/// The peer that is named beside a place such as `app[0].about` or `do[2].to`.
+/// Returns the peer that the table of a place names. Such a place is `app[0].about` or `do[2].to`.
 fn peer_at<'a>(top: &'a Table, place: &str) -> Option<&'a str> {
     let (list, rest) = place.split_once('[')?;
     let (digits, _) = rest.split_once(']')?;
@@ -90,7 +90,7 @@ fn dials_of(top: &Table) -> &[Value] {
     }
 }
 
-/// Writes the peers that dials join a peer to, in their order.
+/// Writes the peers to which dials join a peer, in the order of the dials.
 fn write_neighbours<W: fmt::Write>(
     f: &mut fmt::Formatter<W>,
     dials: &[Value],
@@ -111,7 +111,7 @@ fn write_neighbours<W: fmt::Write>(
     Ok(())
 }
 
-/// The other end of a dial, where a peer is at one.
+/// Returns the other end of a dial, where a peer is at one end.
 fn other_end<'a>(dial: &'a Value, peer: &str) -> Option<&'a str> {
     let from = dial.get("from")?.as_str()?;
     let to = dial.get("to")?.as_str()?;
@@ -124,7 +124,7 @@ fn other_end<'a>(dial: &'a Value, peer: &str) -> Option<&'a str> {
     }
 }
 
-/// That what stands at a place stands for the second time.
+/// Says what the value at a place repeats.
 pub fn repeated(alloc: Global, place: &str) -> Result<String, AllocError> {
     let what = if place.starts_with("topic[") {
         "is the name of an earlier topic"

@@ -2,12 +2,11 @@
 use gs_params::{Check, CountRule, ParamFault, Parameter, ScoreRule, TopicParameter};
 use std::fmt;
 
-/// A parameter, its value and the rule that it breaks, in words. A key that is left out has its
-/// default.
+/// A parameter, its value and the rule that it breaks, in words. The value of a key that is left out is its default.
 #[derive(Clone, Copy)]
 pub struct Broken(pub ParamFault);
 
-/// A parameter as its place in the scenario, as `` `params.d` `` or `` `topic[0].w4` ``.
+/// A parameter as its place in the scenario, such as `` `params.d` `` or `` `topic[0].w4` ``.
 #[derive(Clone, Copy)]
 struct Placed(Parameter);
 
@@ -87,7 +86,7 @@ fn write_score_rule<W: fmt::Write>(f: &mut fmt::Formatter<W>, rule: ScoreRule) -
     }
 }
 
-/// The key of a parameter.
+/// Returns the key of a parameter.
 pub fn key_of(parameter: Parameter) -> &'static str {
     match parameter {
         Parameter::D => "d",

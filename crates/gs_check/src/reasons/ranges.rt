@@ -5,8 +5,8 @@ use gs_params::{
     DEFAULT_TOPIC_FACTORS, DEFAULT_TOPIC_TIMING, ScoreRule,
 };
 
-/// The lowest and the highest number that a key can have, where it is a parameter's. Where its rule
-/// compares it with other keys, these are the bounds that hold whatever those are.
+/// Returns the lowest and the highest number that a key can have, where it is the key of a parameter. Where its rule
+/// compares it with other keys, these bounds hold whatever values those have.
 pub fn range_of(key: &str) -> Option<(i64, i64)> {
     let (_, degree) = own_range("d_high")?;
     match key {
@@ -19,8 +19,8 @@ pub fn range_of(key: &str) -> Option<(i64, i64)> {
     }
 }
 
-/// The range of a parameter by the first of its checks that compares it only with numbers. No key of
-/// `[params]` is one of a `[[topic]]`, too.
+/// Returns the range of a parameter by the first of its checks that compares it only with numbers. No key is both in
+/// `[params]` and in `[[topic]]`.
 fn own_range(key: &str) -> Option<(i64, i64)> {
     range_in(&DEFAULT_DEGREES.checks(), key)
         .or(range_in(&DEFAULT_THRESHOLDS.checks(), key))
@@ -43,7 +43,7 @@ fn range_in(checks: &[Check], key: &str) -> Option<(i64, i64)> {
     None
 }
 
-/// A bound of counted values as a signed number, which holds each that a rule has.
+/// Returns a bound of a count as a signed number. Each bound that a rule has fits one.
 pub fn signed(bound: u64) -> i64 {
     bound.min(i64::MAX as u64) as i64
 }

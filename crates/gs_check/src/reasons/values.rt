@@ -27,7 +27,7 @@ impl<'a> fmt::Display for Mismatch<'a> {
 }
 
 impl<'a> Mismatch<'a> {
-    /// Whether the value is in the list at the place: there are lists of numbers and of hex digits.
+    /// Says whether the value is an element of the list at the place. There are lists of numbers and of hex digits.
     fn is_of_an_element(&self) -> bool {
         match self.wanted {
             Wanted::Hex => key_of(self.place) != "hex",
@@ -52,7 +52,7 @@ impl<'a> Mismatch<'a> {
         }
     }
 
-    /// The range of a parameter. What is wanted of it is no more than the range of all numbers.
+    /// Returns the range of a parameter. The refusal states only the range of all numbers.
     fn range_of_parameter(&self) -> Option<(i64, i64)> {
         let lowest = match self.wanted {
             Wanted::Number(low, _) => signed(low),
@@ -86,7 +86,7 @@ impl<'a> Mismatch<'a> {
         }
     }
 
-    /// The rule where it has no numbers.
+    /// Returns the rule where it has no numbers.
     fn plain_rule(&self) -> &'static str {
         match self.wanted {
             Wanted::TruthValue => "it must be true or false",
@@ -100,7 +100,7 @@ impl<'a> Mismatch<'a> {
         }
     }
 
-    /// What is to be said of quotes: a text stands between them, and a number doesn't.
+    /// Returns what a sentence adds about quotes: a text needs them, and a number has none.
     fn quotes(&self) -> &'static str {
         let is_text = matches!(self.found, Found::Text(_));
         match self.wanted {

@@ -1,7 +1,7 @@
 //! Peering agreements.
 use crate::tests::cases::Case;
 
-/// Agreements of the peers of the scenario, and what is said of each.
+/// Agreements of the peers of the scenario, and what the program says about each.
 pub static AGREEMENTS: [Case; 14] = [
     (
         "an agreement each way",

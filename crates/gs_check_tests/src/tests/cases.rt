@@ -1,6 +1,6 @@
-//! Scenarios, and what is to be said of each.
+//! Scenarios, and what the program must say about each.
 
-/// A scenario that is fine. Each case changes a text in it, where that first stands.
+/// A scenario that is fine. Each case changes the first place of a text in it.
 pub static SCENARIO: &str = r#"round_ms = 100
 rounds = 10
 workers = 2
@@ -42,7 +42,7 @@ topic = "news"
 hex = "616263"
 "#;
 
-/// What stands of its last line before the payload.
+/// The part of its last line before the payload.
 pub const LINE: &str = "what = \"publish\"\nat = 2\npeer = \"b\"\ntopic = \"news\"\n";
 
 /// A case: its name, the text that is changed, what it becomes, and the whole answer.
@@ -110,7 +110,7 @@ pub static FINE: [Case; 8] = [
     ),
 ];
 
-/// What is no TOML, with the line and the column where it ends to be some.
+/// Texts that are no TOML, with the line and the column where they stop being TOML.
 pub static NO_TOML: [Case; 9] = [
     (
         "a key twice",

@@ -1,4 +1,4 @@
-//! Keys that are not known, and what is to be said of each.
+//! Keys that are not known, and what the program must say about each.
 use crate::tests::cases::{Case, LINE};
 
 /// Keys that are not known.

@@ -190,10 +190,10 @@ pub static OF_TOPIC: [OutOfRange; 9] = [
     ("p3_activation_ms", "1000000001", 4, "at most 1000000000"),
 ];
 
-/// A key of parameters, and the bounds of its range, whatever other keys say.
+/// A key of parameters, and the bounds of its range, whatever values other keys have.
 pub type Bounds = (&'static str, &'static str);
 
-/// The numbers of `[params]` but `d`, which stands in the scenario.
+/// The numbers of `[params]` except `d`, which the scenario has already.
 pub static BOUNDS: [Bounds; 31] = [
     ("d_low", "1 to 64"),
     ("d_high", "1 to 64"),

@@ -1,4 +1,4 @@
-//! Scenarios with values that are refused, and what is to be said of each.
+//! Scenarios with values that are refused, and what the program must say about each.
 use crate::tests::cases::{Case, LINE};
 
 /// Values that are not what they must be.
@@ -277,7 +277,7 @@ pub static VALUES: [Case; 41] = [
     ),
 ];
 
-/// Names that nothing has, and what stands twice.
+/// Names that nothing has, and values that repeat an earlier one.
 pub static NAMES: [Case; 15] = [
     (
         "a dial to a peer that is not there",

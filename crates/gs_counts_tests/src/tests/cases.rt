@@ -1,4 +1,4 @@
-//! Cases: what peers did, and what is counted of it.
+//! Cases: what peers did, and what is counted for it.
 use crate::tests::made::Life;
 use crate::tests::told::told;
 use gs_reach::Chosen;
@@ -46,7 +46,7 @@ pub(crate) const NARROW: &str = "round_ms = 100\nrounds = 2\nworkers = 1\ncapaci
     [[topic]]\nname = \"news\"\n[[peer]]\nname = \"a\"\n[[peer]]\nname = \"b\"\n[[peer]]\nname = \"c\"\n\
     [[dial]]\nfrom = \"b\"\nto = \"a\"\n[[dial]]\nfrom = \"c\"\nto = \"a\"\n";
 
-/// The name of the first case that is told otherwise, and what is told of it.
+/// The name of the first case whose counts are wrong, and the text of these counts.
 pub(crate) fn first_wrong(
     alloc: Global,
     cases: &'static [Case],

@@ -1,4 +1,4 @@
-//! What is counted of the traces of some peers.
+//! What is counted if only the traces of some peers count.
 use crate::tests::cases::{Case, PLAIN};
 use crate::tests::made::{Did, Life};
 use crate::tests::made_rpcs::Part;

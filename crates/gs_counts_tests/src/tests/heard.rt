@@ -1,4 +1,4 @@
-//! What is counted of what peers hear.
+//! What is counted when peers hear something.
 use crate::tests::cases::{Case, PLAIN, SILENT, first_wrong};
 use crate::tests::made::{Did, Found, Life};
 use crate::tests::made_rpcs::Part;
@@ -77,7 +77,7 @@ static HEARD: [Case; 5] = [
             round 2 OffTopic 1 PayloadBytesAgain 3\n\
             all New 1 Duplicates 2 Ignored 2 Rejected 2 Signed 1 OffTopic 3 PayloadBytesNew 3 PayloadBytesAgain 19\n",
     },
-    // Seen again later, `de` is accepted, and a copy after that is a duplicate.
+    // When `de` is seen again later, it is accepted, and a copy after that is a duplicate.
     Case {
         name: "the last verdict counts",
         scenario: PLAIN,
@@ -102,7 +102,7 @@ static HEARD: [Case; 5] = [
             round 0 New 1 Duplicates 2 Ignored 3 PayloadBytesNew 2 PayloadBytesAgain 11\n\
             all New 1 Duplicates 2 Ignored 3 PayloadBytesNew 2 PayloadBytesAgain 11\n",
     },
-    // A peer of which no dial tells is in no row of links, and what lies after the last round in none of rounds.
+    // A peer without a dial is in no row of links, and what lies after the last round is in no row of rounds.
     Case {
         name: "what stands in no row",
         scenario: PLAIN,

@@ -14,13 +14,13 @@ use std::alloc::{AllocError, Global};
 pub(crate) enum Did {
     Joins(&'static str),
     Leaves(&'static str),
-    /// An RPC comes of a neighbour, and has one part of each kind.
+    /// An RPC comes from a neighbour, and has one part of each kind.
     Hears(u16),
-    /// One comes of a neighbour that is lost.
+    /// Such an RPC comes from a neighbour that is lost.
     HearsLate(u16),
-    /// A part comes of a neighbour, on a topic.
+    /// A part comes from a neighbour, on a topic.
     Part(u16, &'static str, Part),
-    /// A message comes of a neighbour, on a topic, and is found to be so.
+    /// A message comes from a neighbour, on a topic, and is found to be so.
     Message(u16, &'static str, &'static [u8], Found),
     Beats,
     /// A neighbour promises a message up to this moment.
@@ -31,7 +31,7 @@ pub(crate) enum Did {
     Grafted(By, u16, &'static str),
     /// A neighbour leaves the mesh of a topic.
     Pruned(By, u16, &'static str),
-    /// A message is kept, and a neighbour gets it as often.
+    /// A message is kept, and a neighbour gets it this often.
     Kept(u16, u8),
     Loses(u16, Loss),
     HangsUp(u16),
@@ -40,7 +40,7 @@ pub(crate) enum Did {
     Sends(&'static str, &'static [u16]),
     /// An RPC of one part goes to a neighbour.
     SendsOne(u16, &'static str, Part),
-    /// An RPC goes to a neighbour that fits no frame.
+    /// An RPC that fits no frame goes to a neighbour.
     SendsTooMuch(u16, &'static str),
     /// A neighbour asks for an identifier, and is sent a message.
     Answers(u16, &'static str),
@@ -53,13 +53,13 @@ pub(crate) enum Did {
 /// What brings about a change of a mesh.
 #[derive(Clone, Copy)]
 pub(crate) enum By {
-    /// A part of an RPC that is heard of the neighbour.
+    /// A part of an RPC that is heard from the neighbour.
     Neighbour,
     Heartbeat,
     Loss,
     /// An act of the peer's own user.
     User,
-    /// What brings about no such change in a run.
+    /// An event that causes no such change in a run.
     Nothing,
 }
 
@@ -74,7 +74,7 @@ pub(crate) enum Found {
     Nothing,
 }
 
-/// What is left of a peer: what it did, with the moments, and the moments of the lines that it refused.
+/// What a run leaves of a peer: what it did, with the moments, and the moments of the lines that it refused.
 #[derive(Clone, Copy)]
 pub(crate) struct Life {
     pub trace: &'static [(u64, Did)],
@@ -282,7 +282,7 @@ fn finished(alloc: Global, life: &Life) -> Result<Finished, AllocError> {
     })
 }
 
-/// The report of these peers, who are numbered from 0.
+/// The report of these peers, which are numbered from 0.
 pub(crate) fn report_of(alloc: Global, lives: &[Life]) -> Result<Report, AllocError> {
     let mut peers = Vec::new(alloc);
     for life in lives {

@@ -90,7 +90,7 @@ fn message(
     Ok(message)
 }
 
-/// An RPC of one part of each kind: offers and requests are of this many identifiers.
+/// An RPC of one part of each kind: offers and requests have this many identifiers.
 fn rpc_of(
     alloc: Global,
     name: &str,
@@ -112,9 +112,9 @@ fn rpc_of(
     Shared::new(alloc, rpc)
 }
 
-/// An RPC of one part of each kind, with one identifier and a payload of three bytes. With a topic of four bytes its body
-/// is 119 bytes: 10 of the subscription, 13 of the message and 96 of the control messages, 42, 36, 8 and 8 of which are in
-/// turn.
+/// An RPC of one part of each kind, with one identifier and a payload of three bytes. With a topic of four bytes its body is
+/// 119 bytes: 10 for the subscription, 13 for the message and 96 for the control messages. One after the other, these take
+/// 42, 36, 8 and 8 bytes.
 pub(crate) fn each_part(alloc: Global, name: &str) -> Result<Shared<Rpc>, AllocError> {
     rpc_of(alloc, name, 1, message(alloc, name, b"abc", false)?)
 }

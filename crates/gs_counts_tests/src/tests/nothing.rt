@@ -1,4 +1,4 @@
-//! What is counted of what came to nothing.
+//! What is counted when something had no effect.
 use crate::tests::cases::{AGREED, Case, DISLIKED, NARROW, PLAIN, SILENT, THREE, first_wrong};
 use crate::tests::made::{By, Did, Life};
 use crate::tests::made_rpcs::Part;
@@ -7,7 +7,7 @@ use gs_rules::Loss;
 use std::alloc::AllocError;
 
 static NOTHING: [Case; 10] = [
-    // Its parts, a GRAFT among them, count for nothing.
+    // Its parts do not count, and a GRAFT is one of them.
     Case {
         name: "a graylisted RPC",
         scenario: DISLIKED,
@@ -103,7 +103,7 @@ static NOTHING: [Case; 10] = [
             link 2 0 GraftHeard 1 GraftRefusedFull 1\nnews GraftHeard 1 GraftRefusedFull 1 Grafted 1\n\
             round 0 GraftHeard 1 GraftRefusedFull 1 Grafted 1\nall GraftHeard 1 GraftRefusedFull 1 Grafted 1\n",
     },
-    // It asks for one identifier twice, of which no message is kept.
+    // It asks twice for one identifier, and no such message is kept.
     Case {
         name: "identifiers of which nothing is kept",
         scenario: PLAIN,
@@ -118,7 +118,7 @@ static NOTHING: [Case; 10] = [
             link 1 0 IwantHeard 1 IdsAsked 2 IdsNotSentNotKept 2\n\
             round 0 IwantHeard 1 IdsAsked 2 IdsNotSentNotKept 2\nall IwantHeard 1 IdsAsked 2 IdsNotSentNotKept 2\n",
     },
-    // A message is sent three times to one that asks. So of five the last two get none.
+    // A message is sent three times to a neighbour that asks. So of five requests the last two get none.
     Case {
         name: "identifiers that were answered too often",
         scenario: PLAIN,
@@ -153,7 +153,7 @@ static NOTHING: [Case; 10] = [
             link 1 0 IwantHeard 1 IdsAsked 3 IdsNotSentScore 3\nround 0 IwantHeard 1 IdsAsked 3 IdsNotSentScore 3\n\
             all IwantHeard 1 IdsAsked 3 IdsNotSentScore 3\n",
     },
-    // `c` broke two promises, and `a` waited: they stand with `c`, in the row from `c` to `a`. `b` is lost, and is charged
+    // `c` broke two promises, and `a` waited: they count for `c`, in the row from `c` to `a`. `b` is lost, and is charged
     // with none. The bytes of `b` spelled no RPC at `a`.
     Case {
         name: "broken promises and faults",

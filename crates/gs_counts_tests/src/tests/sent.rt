@@ -1,4 +1,4 @@
-//! What is counted of what peers send, deliver, change and refuse.
+//! What is counted when peers send, deliver, change and refuse something.
 use crate::tests::cases::{Case, PLAIN, SILENT, THREE, first_wrong};
 use crate::tests::made::{By, Did, Life};
 use crate::tests::made_rpcs::Part;
@@ -29,7 +29,7 @@ static SENT: [Case; 9] = [
             all RpcsSent 2 BytesSent 240 MessageBytesSent 238 SubscriptionsSent 2 MessagesPushed 2 IhaveSent 2 \
             IdsOfferedSent 2 IwantSent 2 IdsAskedSent 2 GraftSent 2 PruneSent 2\n",
     },
-    // A message that is sent since one asks for it is an answer, and a frame of 14 bytes at the shutdown.
+    // A message that is sent because a neighbour asks for it is an answer. It is a frame of 14 bytes at the shutdown.
     Case {
         name: "an answer",
         scenario: PLAIN,
@@ -52,7 +52,7 @@ static SENT: [Case; 9] = [
             round 0 IwantHeard 1 IdsAsked 1 RpcsSent 1 BytesSent 14 MessageBytesSent 13 MessagesAnswered 1\n\
             all IwantHeard 1 IdsAsked 1 RpcsSent 1 BytesSent 14 MessageBytesSent 13 MessagesAnswered 1\n",
     },
-    // Bytes go out as they are on an open link only, after what is gathered. What they spell is heard at the other end.
+    // Raw bytes go out only on an open link, after what is gathered. What they spell is heard at the other end.
     Case {
         name: "raw bytes",
         scenario: PLAIN,
@@ -100,8 +100,8 @@ static SENT: [Case; 9] = [
         told: "peer 0 RefusedLines 2 Delivered 2\npeer 1 RefusedLines 1\nelse Delivered 1\nnews Delivered 1\n\
             round 0 RefusedLines 2\nround 1 Delivered 2\nround 2 RefusedLines 1\nall RefusedLines 3 Delivered 2\n",
     },
-    // Sizes count for the topics that a peer is subscribed to when it ends a round: 2 and 0 of `a` in round 0, and 1 in
-    // round 1. `b` is subscribed to none.
+    // Sizes count for the topics that a peer is subscribed to when it ends a round. They are 2 and 0 for `a` in round 0, and
+    // 1 in round 1. `b` is subscribed to none.
     Case {
         name: "changes of meshes",
         scenario: THREE,
@@ -206,7 +206,7 @@ static SENT: [Case; 9] = [
         told: "peer 0 MessagesPushed 1\nlink 0 1 MessagesPushed 1\nnews MessagesPushed 1\nround 0 MessagesPushed 1\n\
             all MessagesPushed 1\n",
     },
-    // What one sends and the other hears of it stand in one row.
+    // What one peer sends and what the other hears from it are in one row.
     Case {
         name: "both ends of a link",
         scenario: PLAIN,

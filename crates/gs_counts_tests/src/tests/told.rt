@@ -1,5 +1,5 @@
-//! Counts of a run as a text: a line for each row in which something stands, with its kinds in order, and after those of
-//! links how many bytes went to each peer, and how many of those are raw.
+//! Counts of a run as a text: a line for each row in which something stands, with its kinds in order. After the lines of
+//! links it says how many bytes went to each peer, and how many of those are raw.
 ghost use Rattle.std.specs.Prelude.{IfOk};
 ghost use Rattle.gs_plan.specs.Plans.{IsInRange};
 

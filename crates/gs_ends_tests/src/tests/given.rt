@@ -1,4 +1,4 @@
-//! What is taken of lists is what was given for them.
+//! What is taken from lists is what was given for them.
 ghost use Rattle.std.specs.Prelude.{◌≡◌, ◌∷◌, Some, [], IfOk, true};
 ghost use Rattle.gs_link.specs.declared.item.Slot.TheVariants.{Close, Round};
 ghost use Rattle.gs_link.specs.Runs.{closes};

@@ -1,12 +1,12 @@
-//! Groups of nobody, and groups of which the traces of others say nothing: no count of theirs is 0, since none is known.
+//! Groups without peers, and groups without a trace that counts. None of their counts is 0, because none is known.
 use crate::tests::ran::{Case, first_wrong};
 use crate::tests::scenarios::{LINE, TWO};
 use gs_figure_sheets::{Layout, Subject};
 use std::alloc::AllocError;
 use std::test::*;
 
-/// `x` had no message of `h1`. What passed from honest peers is in their traces, which do not count, and so are their meshes
-/// and the scores that they gave. `x` sent its subscription and its message to `h2`, and scored `h2` at its shutdown.
+/// `x` received no message of `h1`. The traces of honest peers do not count here. So what they sent, their meshes and the
+/// scores that they gave are not known. `x` sent its subscription and its message to `h2`, and scored `h2` at its shutdown.
 static TABLES: [Case; 1] = [Case {
     name: "a line as its last peer saw it",
     scenario: LINE,
@@ -67,7 +67,7 @@ bad     bad         0        0       0           -       -    -     -     0     
 ",
 }];
 
-/// Nobody has the name of the second group. What the first one sent to it is known: that is 0.
+/// No peer has the name of the second group. What the first group sent to it is known: that is 0.
 static SHEETS: [Case; 1] = [Case {
     name: "a group that nobody is in",
     scenario: TWO,

@@ -1,4 +1,4 @@
-//! Whether no entry of a trace is earlier than the one before it.
+//! Checks that no entry of a trace is earlier than the one before it.
 ghost use Rattle.std.specs.Prelude.{◌≡◌, reverse, true};
 ghost use Rattle.std.specs.List.{AllByRecursion};
 ghost use Rattle.gs_base.specs.declared.names.PeerNo.{PeerNo as PeerNoValue};
@@ -9,7 +9,7 @@ use gs_base::PeerNo;
 use gs_report::Finished;
 use gs_rules::StoredEntry;
 
-/// Whether the entries of each trace are in order.
+/// Says whether the entries of each trace are in order.
 pub(crate) fn are_in_order(peers: &[(PeerNo, Finished)]) -> bool
     ensures { result ≡ true
         → AllByRecursion (λ (x : PeerNoValue × FinishedValue). AreInOrder x.1.trace) peers.now }

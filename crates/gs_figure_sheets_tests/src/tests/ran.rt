@@ -1,4 +1,4 @@
-//! Sheets of a run of a scenario, as a text.
+//! Runs a scenario, and writes its sheets as a text.
 ghost use Rattle.std.specs.Prelude.{IfOk};
 ghost use Rattle.gs_plan.specs.Plans.{IsInRange};
 
@@ -20,7 +20,7 @@ pub(crate) struct Case {
     pub scenario: &'static str,
     pub by: Option<&'static str>,
     pub among: Option<&'static str>,
-    /// The name of each group, and those of its peers.
+    /// The name of each group, and the names of its peers.
     pub groups: &'static [(&'static str, &'static str)],
     pub subject: Subject,
     pub text: &'static str,
@@ -65,7 +65,7 @@ fn wanted_of(alloc: Global, case: &Case, layout: Layout) -> Result<Wanted<'stati
     })
 }
 
-/// The sheets of a run that are wanted, where its traces are in order.
+/// Returns the sheets of a run that are wanted, if its traces are in order.
 fn sheets_of(
     alloc: Global,
     plan: &Plan,
@@ -80,7 +80,7 @@ fn sheets_of(
     figure_sheets(alloc, plan, report, wanted)
 }
 
-/// The sheets of a run of a case.
+/// Returns the sheets of a run of a case.
 fn run_of(alloc: Global, case: &Case, layout: Layout) -> Result<Seq<Sheet>, AllocError> {
     let plan = plan_of(alloc, case.scenario)?;
     let report = report_of(alloc, &plan)?;
@@ -95,8 +95,8 @@ fn written(alloc: Global, sheets: &Seq<Sheet>, layout: Layout) -> Result<Vec<u8>
     }
 }
 
-/// The name of the first case that is written otherwise, and what is written of it: tables for a person, or what stands in the
-/// sheets for a program.
+/// Returns the name of the first case with an unexpected text, and that text. The text has tables for a person, or the
+/// values in the sheets for a program.
 pub(crate) fn first_wrong(
     alloc: Global,
     cases: &'static [Case],
@@ -112,7 +112,7 @@ pub(crate) fn first_wrong(
     Ok(None)
 }
 
-/// The name of the first case whose columns have other names, and these.
+/// Returns the name of the first case with unexpected names of columns, and these names.
 pub(crate) fn first_named_otherwise(
     alloc: Global,
     cases: &'static [Case],

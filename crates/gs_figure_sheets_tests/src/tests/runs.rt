@@ -1,4 +1,4 @@
-//! What stands in the sheets of a run, worked out by hand from the scenario and the rules.
+//! The values in the sheets of a run, worked out by hand from the scenario and the rules.
 use crate::tests::ran::{Case, first_wrong};
 use crate::tests::scenarios::{GRAY, TWO};
 use gs_figure_sheets::{Layout, Subject};

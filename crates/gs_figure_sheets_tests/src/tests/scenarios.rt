@@ -1,7 +1,7 @@
 //! Scenarios whose figures are worked out by hand.
 
-/// `h2` stands between `h1` and `x`. All subscribe, and no heartbeat comes, so nobody has a mesh. What `h1` and `x` publish goes
-/// to all neighbours on the topic. So `h2` delivers both a round later, and passes none on.
+/// `h2` is a neighbour of `h1` and of `x`. All subscribe, and no heartbeat comes, so nobody has a mesh. What `h1` and `x`
+/// publish goes to all neighbours on the topic. So `h2` delivers both messages a round later, and forwards neither.
 pub(crate) const LINE: &str = "round_ms = 100\nrounds = 6\nworkers = 1\ncapacity = 1\nseed = 1\n\
     [[topic]]\nname = \"news\"\n\
     [[peer]]\nname = \"h1\"\n[[peer]]\nname = \"h2\"\n[[peer]]\nname = \"x\"\n\
@@ -23,10 +23,10 @@ pub(crate) const TWO: &str = "round_ms = 100\nrounds = 4\nworkers = 1\ncapacity 
     [[do]]\nwhat = \"publish\"\nat = 3\npeer = \"a\"\ntopic = \"news\"\nhex = \"02\"\n\
     [[do]]\nwhat = \"unsubscribe\"\nat = 4\npeer = \"a\"\ntopic = \"none\"\n";
 
-/// `h1` stands between `h2` and `x`, and its application gives `x` -100. So it handles nothing of `x`, and does not know that `x`
-/// is on the topic. `h2` publishes a payload that `h1` rejects: that counts 1, of which each decay leaves half, and its square
-/// weighs -1. A decay comes in each round but the first, and no heartbeat. So in round 3 the score is -1 before the decay and
-/// -0.25 after it, and a quarter of that in each round after.
+/// `h1` is a neighbour of `h2` and of `x`, and its application gives `x` -100. So `h1` handles nothing from `x`, and does not
+/// know that `x` is on the topic. `h2` publishes a payload that `h1` rejects. That counts 1, each decay leaves half of the
+/// count, and its square has the weight -1. A decay comes in each round except the first, and no heartbeat comes. So in round
+/// 3 the score is -1 before the decay and -0.25 after it. In each later round it is a quarter of the one before.
 pub(crate) const GRAY: &str = "round_ms = 100\nrounds = 5\nworkers = 1\ncapacity = 1\nseed = 1\n\
     [params]\ndecay_ms = 100\nheartbeat_ms = 60000\n\
     [[topic]]\nname = \"news\"\nreject = [\"ff\"]\nw4 = -1000000\n\

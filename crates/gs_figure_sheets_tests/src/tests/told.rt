@@ -1,5 +1,5 @@
-//! Sheets as a text: a line for the name of each, and a line for each row. After its labels a row has the name of each column
-//! in which something other than the number 0 stands, with that. Scores are in millionths.
+//! Writes sheets as a text: a line for the name of each sheet, and a line for each row. A row has its labels first. Then it
+//! has the name and the value of each column, except where the value is a count of 0. Scores are in millionths.
 use gs_base::Seq;
 use gs_sheets::{Column, Row, Sheet, Value};
 use std::alloc::{AllocError, Global};
@@ -27,7 +27,7 @@ fn is_zero(value: &Value) -> bool {
     }
 }
 
-/// Adds what stands under a column: of labels only the value, and of the others nothing for 0.
+/// Appends what stands under a column: only the value for a label, and nothing if another column has a count of 0.
 fn push_cell(
     alloc: Global,
     text: &mut Vec<u8>,
@@ -62,7 +62,7 @@ fn push_row(alloc: Global, text: &mut Vec<u8>, sheet: &Sheet, row: &Row) -> Resu
     text.extend_from_slice(b".\n")
 }
 
-/// The text of these sheets.
+/// Returns the text of these sheets.
 pub(crate) fn told(alloc: Global, sheets: &Seq<Sheet>) -> Result<Vec<u8>, AllocError> {
     let mut text = Vec::new(alloc);
     for sheet in sheets.as_slice() {
@@ -75,7 +75,7 @@ pub(crate) fn told(alloc: Global, sheets: &Seq<Sheet>) -> Result<Vec<u8>, AllocE
     Ok(text)
 }
 
-/// A line for each sheet: its name, and those of its columns.
+/// Returns a line for each sheet: its name, and the names of its columns.
 pub(crate) fn names_in(alloc: Global, sheets: &Seq<Sheet>) -> Result<Vec<u8>, AllocError> {
     let mut text = Vec::new(alloc);
     for sheet in sheets.as_slice() {

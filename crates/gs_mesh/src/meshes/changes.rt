@@ -1,4 +1,4 @@
-//! Changes of what is kept of one topic.
+//! Changes of what is kept about one topic.
 ghost use Rattle.std.specs.Prelude.{◌≡◌, [], false, true, None, Some, if◌then◌else◌, OnErr, OnOk};
 ghost use Rattle.gs_base.specs.declared.names.PeerNo.{PeerNo as PeerNoValue};
 ghost use Rattle.gs_base.specs.Names.{same_peer};
@@ -12,10 +12,10 @@ use gs_base::{Millis, PeerNo, Topic, clone_of};
 use indexmap::IndexMap;
 use std::alloc::{AllocError, Global};
 
-/// Makes a place for what is kept of a topic, which is nothing at first.
+/// Makes a place for what is kept about a topic, which is nothing at first.
 ///
 /// # Errors
-/// `AllocError` where there was no memory.
+/// `AllocError` if memory runs out.
 pub(crate) fn keep(
     alloc: Global,
     topics: &mut IndexMap<Topic, TopicMesh>,
@@ -40,7 +40,7 @@ pub(crate) fn join(topics: &mut IndexMap<Topic, TopicMesh>, topic: &Topic)
     }
 }
 
-/// The peer leaves a topic. The answer is who was in its mesh, since each of them is sent a PRUNE.
+/// Unsubscribes the peer from a topic. Returns who was in the topic's mesh, since each of them is sent a PRUNE.
 pub(crate) fn leave(
     alloc: Global,
     topics: &mut IndexMap<Topic, TopicMesh>,
@@ -60,10 +60,10 @@ pub(crate) fn leave(
     }
 }
 
-/// A peer comes into the mesh of a topic.
+/// Adds a peer to the mesh of a topic.
 ///
 /// # Errors
-/// `AllocError` where there was no memory; nothing is changed then.
+/// `AllocError` if memory runs out. Nothing is changed then.
 pub(crate) fn graft(
     topics: &mut IndexMap<Topic, TopicMesh>,
     peer: PeerNo,
@@ -82,7 +82,7 @@ pub(crate) fn graft(
     }
 }
 
-/// A peer leaves the mesh of a topic. The answer is whether it was in it.
+/// Removes a peer from the mesh of a topic. Says whether the peer was in it.
 pub(crate) fn prune(topics: &mut IndexMap<Topic, TopicMesh>, peer: PeerNo, topic: &Topic) -> bool
     ensures answer { result ≡ is_among (members topics.old.entries topic.now) peer }
     ensures prunes { Puts topics.old.entries topics.new.entries topic.now
@@ -96,10 +96,10 @@ pub(crate) fn prune(topics: &mut IndexMap<Topic, TopicMesh>, peer: PeerNo, topic
     }
 }
 
-/// A neighbour is not to be grafted to the mesh of a topic before a moment.
+/// Notes that a neighbour may not be grafted to the mesh of a topic before a moment.
 ///
 /// # Errors
-/// `AllocError` where there was no memory; nothing is changed then.
+/// `AllocError` if memory runs out. Nothing is changed then.
 pub(crate) fn note_backoff(
     topics: &mut IndexMap<Topic, TopicMesh>,
     peer: PeerNo,
@@ -121,10 +121,10 @@ pub(crate) fn note_backoff(
     }
 }
 
-/// A peer comes into the fanout of a topic.
+/// Adds a peer to the fanout of a topic.
 ///
 /// # Errors
-/// `AllocError` where there was no memory; nothing is changed then.
+/// `AllocError` if memory runs out. Nothing is changed then.
 pub(crate) fn fan(
     topics: &mut IndexMap<Topic, TopicMesh>,
     peer: PeerNo,
@@ -143,7 +143,7 @@ pub(crate) fn fan(
     }
 }
 
-/// A peer leaves the fanout of a topic. The answer is whether it was in it.
+/// Removes a peer from the fanout of a topic. Says whether the peer was in it.
 pub(crate) fn unfan(topics: &mut IndexMap<Topic, TopicMesh>, peer: PeerNo, topic: &Topic) -> bool
     ensures answer { result ≡ is_among (fanout topics.old.entries topic.now) peer }
     ensures unfans { Puts topics.old.entries topics.new.entries topic.now

@@ -103,7 +103,7 @@ static CASES: [Case; 18] = [
         ],
         ..NOBODY
     },
-    // Four are best by score, the lower numbers of those that score alike, and both outbound ones are kept beside them.
+    // Four are kept for their score, and of equal scores the lower numbers. Both outbound ones are kept, too.
     Case {
         mesh: &[
             (1, 3_000_000, false),

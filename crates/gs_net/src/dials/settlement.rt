@@ -13,8 +13,8 @@ use gs_plan::Dial;
 use gs_seats::take_last;
 use std::sync::Wait;
 
-/// Settles the links of all dials, and counts those that are whole: each of them, since each end
-/// that takes has taken the close. The ends of each peer are in the order of the dials.
+/// Settles the links of all dials, and returns how many of them are whole. That is all of them, since each taking end has taken
+/// the close. The ends of each peer must stand in the order of the dials.
 pub fn settle_all<R: Wait>(rt: &R, dials: &[Dial], lists: Vec<Vec<(PeerNo, LinkTx, LinkRx)>>) -> u64
     requires few { 2 * length dials.now < 2 ^ 64 }
     requires named { All (JoinsTwoOf (length lists.items)) dials.now }
@@ -27,7 +27,7 @@ pub fn settle_all<R: Wait>(rt: &R, dials: &[Dial], lists: Vec<Vec<(PeerNo, LinkT
     let mut left = dials;
     let mut lists = lists;
     let mut settled = 0;
-    // From the last dial back each peer's ends are a stack: what a dial gave stands last, and no end is searched.
+    // From the last dial back, each peer's ends are a stack. What a dial gave stands last, so no end is searched for.
     while let Some((dial, rest)) = left.split_last() {
         let Some(one) = take_last(&mut lists, dial.from) else {
             unreachable!()

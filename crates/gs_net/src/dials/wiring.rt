@@ -9,12 +9,12 @@ use gs_plan::Dial;
 use gs_seats::{empty_lists, put_last};
 use std::alloc::{AllocError, Global};
 
-/// Opens two links for each dial, one there and one back, and gives each of `peers` peers its ends
-/// in the order of the dials: each neighbour, with the end that sends to it and the end that takes
-/// from it. In each link up to `capacity` slots wait, 1 to 1,024. A dial joins two different peers.
+/// Opens two links for each dial, one in each direction, and returns the ends of each peer in the order of the dials. Each
+/// element is a neighbour, the end that sends to it and the end that takes from it. In each link up to `capacity` slots wait,
+/// 1 to 1,024. Each dial must join two different peers with numbers below `peers`.
 ///
 /// # Errors
-/// `AllocError` where there was no memory.
+/// `AllocError` if memory runs out.
 pub fn wire_all(
     alloc: Global,
     capacity: usize,

@@ -13,8 +13,8 @@ pub(crate) struct Case {
     pub text: &'static str,
 }
 
-/// `b` dials `a`. Rounds of 100 milliseconds, and the last has number 3. Misbehaviour weighs -10, twice as much -40. A decay
-/// leaves half of it.
+/// `b` dials `a`. Rounds of 100 milliseconds, and the last has number 3. One misbehaviour weighs -10, and two weigh -40. A
+/// decay halves the counter.
 pub(crate) const PLAIN: &str = "round_ms = 100\nrounds = 3\nworkers = 1\ncapacity = 1\nseed = 1\n\
     [params]\np7_decay = 500000\n[[topic]]\nname = \"news\"\n[[peer]]\nname = \"a\"\n[[peer]]\nname = \"b\"\n\
     [[dial]]\nfrom = \"b\"\nto = \"a\"\n";

@@ -15,7 +15,7 @@ pub(crate) enum Did {
     BeatsBlaming(u16),
     Decays,
     Shuts,
-    /// A round ends, and a neighbour misbehaves in it as often.
+    /// A round ends, and a neighbour misbehaves in it this many times.
     Blames(u16, u8),
     Hears(u16),
     HearsLate(u16),
@@ -27,7 +27,7 @@ pub(crate) enum Did {
 /// What a peer did, with the moments.
 pub(crate) type Life = &'static [(u64, Did)];
 
-/// Which peers: each where there is no list.
+/// Which peers: all where there is no list.
 pub(crate) type Among = Option<&'static [u16]>;
 
 fn topic(alloc: Global) -> Result<Topic, AllocError> {
@@ -99,7 +99,7 @@ fn finished(alloc: Global, life: Life) -> Result<Finished, AllocError> {
     })
 }
 
-/// The report of these peers, who are numbered from 0.
+/// The report of these peers, which are numbered from 0.
 pub(crate) fn report_of(alloc: Global, lives: &[Life]) -> Result<Report, AllocError> {
     let mut peers = Vec::new(alloc);
     let mut number: u16 = 0;

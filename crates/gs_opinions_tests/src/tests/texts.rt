@@ -20,7 +20,7 @@ fn plan_of(alloc: Global, scenario: &str) -> Result<Plan, AllocError>
     }
 }
 
-/// Adds who scores whom, how low at most, and when first.
+/// Adds a line for each pair: the two peers, the lowest score and its first moment.
 fn push_pairs(alloc: Global, text: &mut Vec<u8>, all: &Opinions) -> Result<(), AllocError> {
     for row in all.pairs.as_slice() {
         let line = format!(in alloc;

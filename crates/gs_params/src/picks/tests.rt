@@ -6,8 +6,8 @@ use crate::SeededWords;
 
 const FIVE: [PeerNo; 5] = [PeerNo(1), PeerNo(2), PeerNo(3), PeerNo(4), PeerNo(5)];
 
-/// Their places once the words 7 and 9 shuffled two of them: by 7 the first is exchanged with the
-/// third, and then by 9 the second with the third.
+/// Their places after the words 7 and 9 shuffled two of them. By 7 the first is exchanged with the third, and then by 9 the
+/// second with the third.
 const SHUFFLED: [PeerNo; 5] = [PeerNo(3), PeerNo(1), PeerNo(2), PeerNo(4), PeerNo(5)];
 
 /// Those in the first two places, ascending.

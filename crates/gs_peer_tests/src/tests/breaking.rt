@@ -1,4 +1,4 @@
-//! Lives of a peer that breaks the protocol: it hangs up, or puts bytes on a link that may spell no RPC.
+//! Runs of a peer that breaks the protocol: it hangs up, or puts bytes on a link that may spell no RPC.
 use crate::tests::cases::{Case, FIELD_0, NOTHING, ROUND_0};
 use crate::tests::items::{PUBLISHES, SUBSCRIBES, Word};
 use gs_base::Millis;
@@ -10,8 +10,8 @@ use gs_rules::{Refusal, RefusedLine};
 /// The frame of the message `xyz` on `a`.
 const ANSWERS: &[u8] = b"\x0a\x12\x08\x12\x03xyz\x22\x01a";
 
-/// It hangs up after a message, in round 1. The neighbour hears that message, and nothing of what comes after it. What
-/// the neighbour said in that round is late in the next, and its close makes no entry. More can't be done to the link.
+/// The peer hangs up after a message, in round 1. The neighbour hears that message, and nothing that comes after it. What
+/// the neighbour said in that round is late in the next, and its close makes no entry. Later acts on the link are refused.
 const HANGS_UP: Case<'static> = Case {
     name: "a hang-up closes the link behind what was sent",
     script: &[
@@ -63,7 +63,7 @@ const HANGS_UP: Case<'static> = Case {
     ..NOTHING
 };
 
-/// Not even the end of the round is said.
+/// After the hang-up not even the end of the round is said.
 const HANGS_UP_AT_ONCE: Case<'static> = Case {
     name: "behind a hang-up bytes that spell no RPC are no fault",
     script: &[(0, 0, Call::HangUp(2))],
@@ -105,9 +105,9 @@ const IS_LEFT: Case<'static> = Case {
 
 pub static HANG_UPS: &[Case<'static>] = &[HANGS_UP, HANGS_UP_AT_ONCE, IS_LEFT];
 
-// ---- bytes as they are
+// ---- raw bytes
 
-/// 64 bytes, and the same backwards.
+/// 64 bytes, and the same 64 bytes backwards.
 const FORTH: &[u8] = b"0123456789abcdefghijklmnopqrstuvwxyzABCDEFGHIJKLMNOPQRSTUVWXYZ-_";
 
 const BACK: &[u8] = b"_-ZYXWVUTSRQPONMLKJIHGFEDCBAzyxwvutsrqponmlkjihgfedcba9876543210";
@@ -122,7 +122,7 @@ const OF_200: &[u8] = b"0123456789abcdefghijklmnopqrstuvwxyzABCDEFGHIJKLMNOPQRST
     .,;:!?*#";
 
 /// Texts of 0, 1, 64, 65 and 200 bytes, each between the frames of two subscriptions. They go in pieces of at most 64 bytes,
-/// and the empty one in none. The last one goes ahead of the close.
+/// and the empty one goes in none. The last one goes before the close.
 const PUTS_BYTES: Case<'static> = Case {
     name: "bytes go as they are, between the frames ahead of them and behind them",
     script: &[

@@ -1,4 +1,4 @@
-//! Lives of a peer with one neighbour, over lists in memory, and what must be seen of them.
+//! Runs of a peer with one neighbour, over lists in memory, and what must be seen of them.
 use crate::tests::items::{
     LONG_FRAME, LONG_PAYLOAD, OFFERS, PRUNES, PUBLISHES, PUBLISHES_AND_GRAFTS, SUBSCRIBES, Word,
 };
@@ -7,11 +7,11 @@ use gs_base::Millis;
 use gs_router_testkit::{Call, CasePart, Seen};
 use gs_rules::{Refusal, RefusedLine};
 
-/// What a peer lives through.
+/// The run of a peer, and what must be seen of it.
 #[derive(Clone, Copy, Debug)]
 pub struct Case<'a> {
     pub name: &'a str,
-    /// Who lives, and its neighbour.
+    /// The peer and its neighbour.
     pub pair: Pair,
     /// Its lines, each with its place in the plan and its round.
     pub script: &'a [(usize, u64, Call<'a>)],
@@ -21,7 +21,8 @@ pub struct Case<'a> {
     pub rounds: u64,
     /// How many items the neighbour takes.
     pub room: usize,
-    /// The case is played with each of these: one put in that many is refused; 0 where none is.
+    /// The case is played with each of these numbers. Every put whose count is a multiple of the number is refused, and none
+    /// where it is 0.
     pub refusals: &'a [u64],
     /// The events of its trace.
     pub events: &'a [Seen<'a>],
@@ -54,7 +55,7 @@ pub const SCRIPT: &[(usize, u64, Call<'static>)] = &[
     (8, 1, Call::Publish("a", b"abc")),
 ];
 
-/// What a neighbour says that subscribes to `a` in the first of three rounds.
+/// What a neighbour says if it subscribes to `a` in the first of three rounds.
 pub const SUBSCRIBER: &[Word<'static>] = &[Word::Piece(SUBSCRIBES), Word::Rounds(0, 2)];
 
 /// The neighbour subscribes in round 0, which is heard in round 1, before `abc` is published. In round 2, at 200 milliseconds,
@@ -89,9 +90,9 @@ const SCRIPTED: Case<'static> = Case {
     ..NOTHING
 };
 
-/// A step of decay and a heartbeat come each second but the first, after the lines of their round: in rounds of 100
-/// milliseconds in rounds 10 and 20. The first heartbeat grafts the neighbour, in one frame with what is published in its
-/// round. It is pruned then, stays out of the mesh at the second one, and is offered what was published. What it says in a
+/// Decay and a heartbeat come once in a second, after the lines of their round. As a round takes 100 milliseconds, they come in
+/// rounds 10 and 20. The first heartbeat grafts the neighbour, in one frame with what is published in its round. The neighbour
+/// is then pruned. At the second heartbeat it stays out of the mesh, and is offered what was published. What it says in a
 /// round is heard in the next.
 const WITH_HEARTBEATS: Case<'static> = Case {
     name: "a heartbeat grafts a neighbour, or offers it what is kept",
@@ -162,10 +163,10 @@ pub static SCRIPTS: &[Case<'static>] = &[SCRIPTED, WITH_HEARTBEATS];
 
 // ---- streams
 
-/// The end of round 0 is all that is said to a neighbour which is lost in round 1.
+/// The end of round 0 is all that is said to a neighbour that is lost in round 1.
 pub const ROUND_0: &[Word<'static>] = &[Word::Rounds(0, 0)];
 
-/// The first fault ends what is handled of a neighbour.
+/// After the first fault nothing more is handled from a neighbour.
 const AT_FAULT: Case<'static> = Case {
     events: &[
         Seen::RoundEnd(0),
@@ -177,7 +178,7 @@ const AT_FAULT: Case<'static> = Case {
     ..NOTHING
 };
 
-/// The eighth byte of the frame is not there.
+/// The eighth byte of the frame is missing.
 const CUT: Case<'static> = Case {
     name: "a close within a frame is a fault",
     hears: &[Word::Piece(b"\x07\x0a\x05\x08\x01\x12\x01")],
@@ -211,8 +212,8 @@ const WHOLE_APART: Case<'static> = Case {
     ..WHOLE
 };
 
-/// What is malformed, with a frame after it that is not handled: an eleventh byte of a length, a field 0, a group (wire
-/// type 3), and a length of 1,048,577, one above the limit.
+/// Malformed bytes, with a frame after them that is not handled. They are an eleventh byte of a length, a field 0, a group
+/// (wire type 3), and a length of 1,048,577, one above the limit.
 const ELEVENTH: &[u8] =
     b"\x80\x80\x80\x80\x80\x80\x80\x80\x80\x80\x00\x07\x0a\x05\x08\x01\x12\x01a";
 

@@ -39,11 +39,11 @@ struct Crowd<'a> {
     rounds: u64,
     /// How many slots each neighbour accepts.
     room: usize,
-    /// One put in this many is refused; 0 where none is.
+    /// Every put whose count is a multiple of this is refused, and none where it is 0.
     every: u64,
     /// How often it is polled at most.
     polls: u32,
-    /// Whether its life has ended then.
+    /// Whether its run has ended then.
     ends: bool,
     /// The rounds that it has begun then on worker 4, two digits each.
     begun: u64,
@@ -63,7 +63,7 @@ const TWO_ROUNDS: Crowd<'static> = Crowd {
     begun: 4041,
 };
 
-/// Two neighbours that accept one slot each, the end of round 0. From round 1 on a frame waits for each, and is
+/// Two neighbours that accept one slot each, which the end of round 0 takes. From round 1 on a frame waits for each, and is
 /// refused.
 const FULL: Crowd<'static> = Crowd {
     name: "a frame that is refused keeps no turn, so each round is played",
@@ -78,9 +78,9 @@ const FULL: Crowd<'static> = Crowd {
 };
 
 /// A step looks at one neighbour, and a poll has 64 steps. Round 0 takes two steps at the first of n neighbours and
-/// one at each other. Round 1 is played when the last one is looked at. To it and then to each other one its end and
-/// the close go out, in two steps each; in between nobody has the turn in one step. So a life takes
-/// 2 + (n - 1) + 2 + 1 + 2 (n - 1) = 3 n + 2 steps: 53 of 17 neighbours, 101 of 33.
+/// one at each other. Round 1 is played when the last one is looked at. The end of the round and the close go out to it, and
+/// then to each other one, in two steps each. In one step in between nobody has the turn. So a run takes
+/// 2 + (n - 1) + 2 + 1 + 2 (n - 1) = 3 n + 2 steps: 53 with 17 neighbours, 101 with 33.
 static CROWDS: &[Crowd<'static>] = &[
     Crowd {
         name: "one poll is enough for two rounds of 17 neighbours",
@@ -125,7 +125,7 @@ fn numbers(alloc: Global, count: u16) -> Result<Vec<PeerNo>, AllocError>
     Ok(numbers)
 }
 
-/// What each neighbour says; with what may not be sent the test fails.
+/// What each neighbour says. The test fails if an item may not be sent.
 fn words(alloc: Global, words: &[Word<'_>]) -> Result<Vec<Item>, AllocError>
     ensures { IfOk result (λ items. All IsSendable items.items) }
 {
@@ -165,7 +165,7 @@ fn ends(alloc: Global, numbers: &[PeerNo], crowd: &Crowd<'_>) -> Result<ListEnds
     Ok(ends)
 }
 
-/// The task of a peer in a crowd, which tells its rounds there.
+/// The task of a peer in a crowd, which reports its rounds there.
 fn task_in_crowd(
     alloc: Global,
     crowd: &Crowd<'_>,
@@ -201,7 +201,7 @@ fn task_among(
     task_given(alloc, given, surroundings)
 }
 
-/// Whether a life in a crowd has ended after its polls, and which rounds it has begun.
+/// Whether a run in a crowd has ended after its polls, and which rounds it has begun.
 fn comes_to<R>(rt: &R, crowd: &Crowd<'_>) -> io::Result<(bool, u64)>
 where
     R: Wait + RandomSource + AllocGlobal,

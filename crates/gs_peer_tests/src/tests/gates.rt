@@ -8,7 +8,7 @@ use std::sync::Arc;
 use std::sync::atomic::{AtomicU64, Ordering};
 use std::test::*;
 
-/// The workers and rounds of all turns so far, two digits each.
+/// The workers and rounds of all calls so far, two digits each.
 #[derive(Drop)]
 pub struct Turns {
     pub seen: Arc<AtomicU64>,

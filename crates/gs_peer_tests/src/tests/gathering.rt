@@ -1,9 +1,9 @@
-//! Lives of a peer that says several things to its neighbour in one round: they go out as one frame.
+//! Runs of a peer that says several things to its neighbour in one round: they go out as one frame.
 use crate::tests::cases::{Case, NOTHING};
 use crate::tests::items::Word;
 use gs_router_testkit::{Call, CasePart, Seen};
 
-/// What subscribes to `news` and grafts it.
+/// The frame that subscribes to `news` and grafts it.
 const SUBSCRIBES_AND_GRAFTS: &[u8] =
     b"\x14\x0a\x08\x08\x01\x12\x04news\x1a\x08\x1a\x06\x0a\x04news";
 
@@ -31,8 +31,8 @@ const GRAFTS_AT_ONCE: Case<'static> = Case {
     ..NOTHING
 };
 
-/// What subscribes to `a` and `b`, publishes `abc` on `a`, and grafts both: field by field, and each in the order in which
-/// it was sent.
+/// The frame that subscribes to `a` and `b`, publishes `abc` on `a`, and grafts both. The parts stand field by field, and
+/// within a field in the order in which they were sent.
 const SAYS_ALL: &[u8] = b"\x24\x0a\x05\x08\x01\x12\x01a\x0a\x05\x08\x01\x12\x01b\
     \x12\x08\x12\x03abc\x22\x01a\
     \x1a\x0a\x1a\x03\x0a\x01a\x1a\x03\x0a\x01b";
@@ -71,8 +71,8 @@ const SAYS_MUCH: Case<'static> = Case {
     ..NOTHING
 };
 
-/// Two subscriptions are one frame, unless bytes stand between them, even none or those of a frame that is not finished. A
-/// hang-up cuts, too.
+/// Two subscriptions are one frame, unless a raw line stands between them. It may have no bytes, or those of an unfinished
+/// frame. A hang-up cuts, too.
 const IS_CUT: Case<'static> = Case {
     name: "bytes as they are, a round's end and a hang-up cut what goes out as one frame",
     script: &[

@@ -1,4 +1,4 @@
-//! What a peer and its neighbour say to each other, and what the peer's user has it do.
+//! What a peer and its neighbour say to each other, and what its user makes the peer do.
 use bytes::Bytes;
 use gs_base::{PeerNo, Rpc};
 use gs_link::Item;
@@ -29,7 +29,7 @@ pub const PRUNES: &[u8] = b"\x09\x1a\x07\x22\x05\x0a\x01a\x18\x3c";
 pub enum Word<'a> {
     /// These bytes, in one piece.
     Piece(&'a [u8]),
-    /// These bytes, in pieces of this many.
+    /// These bytes, in pieces of this size.
     Pieces(&'a [u8], usize),
     /// The ends of the rounds from one to another.
     Rounds(u64, u64),
@@ -67,7 +67,7 @@ fn say(alloc: Global, items: &mut Vec<Item>, word: Word<'_>) -> Result<(), Alloc
     }
 }
 
-/// What is said in these words.
+/// The items that say this.
 pub fn said(alloc: Global, words: &[Word<'_>]) -> Result<Vec<Item>, AllocError> {
     let mut items = Vec::new(alloc);
     for word in words {
@@ -93,8 +93,8 @@ pub fn lines(
     Ok(lines)
 }
 
-/// The frame of a message of 989 zero bytes on `a`, which has 1,000 bytes: lengths of 998 for the body, 995 for the message
-/// and 989 for the payload, each with its key but the first, and the topic.
+/// The frame of a message of 989 zero bytes on `a`, which has 1,000 bytes. Its lengths are 998 for the body, 995 for the
+/// message and 989 for the payload. All but the first follow a key. The topic is in the frame, too.
 pub const LONG_FRAME: &[u8] = b"\xe6\x07\x12\xe3\x07\x12\xdd\x07\
       \x00\x00\x00\x00\x00\x00\x00\x00\x00\x00\x00\x00\x00\x00\x00\x00\x00\x00\x00\x00\x00\x00\x00\x00\x00\
       \x00\x00\x00\x00\x00\x00\x00\x00\x00\x00\x00\x00\x00\x00\x00\x00\x00\x00\x00\x00\x00\x00\x00\x00\x00\

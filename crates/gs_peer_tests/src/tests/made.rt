@@ -56,7 +56,7 @@ fn neighbour(peer: PeerNo) -> Neighbour
     Neighbour::new(peer, Bytes::new())
 }
 
-/// Parameters that pass their checks; with any others the test fails.
+/// Parameters that pass their checks. With any others the test fails.
 fn checked(params: Params) -> Result<Params, AllocError>
     ensures { IfOk result AreInRange }
 {
@@ -91,7 +91,7 @@ fn router(alloc: Global, numbers: &[PeerNo]) -> Result<Router, AllocError>
     Router::new(alloc, params, list)
 }
 
-/// What a peer on worker 4 is given with these neighbours and lines, in rounds of 100 milliseconds up to this one.
+/// What a peer on worker 4 is given with these neighbours and lines, in rounds of 100 milliseconds up to `rounds`.
 pub fn assignment(
     alloc: Global,
     number: PeerNo,
@@ -114,7 +114,7 @@ pub fn assignment(
     })
 }
 
-/// A peer that is given this.
+/// The task of a peer that is given this.
 pub fn task_given<G: Gate, S: Ends>(
     alloc: Global,
     assignment: Assignment,
@@ -137,7 +137,7 @@ pub fn task_given<G: Gate, S: Ends>(
     }
 }
 
-/// A peer on worker 4 with one neighbour and these lines, in rounds of 100 milliseconds up to this one.
+/// The task of a peer on worker 4 with one neighbour and these lines, in rounds of 100 milliseconds up to `rounds`.
 pub fn task_in<G: Gate, S: Ends>(
     alloc: Global,
     pair: Pair,
@@ -158,7 +158,7 @@ pub fn task_in<G: Gate, S: Ends>(
     Ok(task)
 }
 
-/// No payload is known, and nobody else knows these.
+/// Payloads that nobody else shares. None is known yet.
 pub fn payloads(alloc: Global) -> Result<Arc<Mutex<Payloads>>, AllocError> {
     let payloads = Arc::new(alloc, Mutex::new(Payloads::new(alloc)))?;
     Ok(payloads)
@@ -170,7 +170,7 @@ pub fn flag(alloc: Global) -> Result<Arc<StopFlag>, AllocError> {
     Ok(stop)
 }
 
-/// These ends and this gate, a flag that nobody sets, and payloads that nobody else knows.
+/// These ends and this gate, a flag that nobody sets, and payloads that nobody else shares.
 pub fn surrounded<G: Gate, S: Ends>(
     alloc: Global,
     ends: S,
@@ -268,7 +268,7 @@ impl<F: Future> Future for AtMost<F> {
     }
 }
 
-/// The ends of the links to and from a neighbour. None was used.
+/// The unused ends of the links to and from a neighbour.
 pub fn links<R: Wait + Drop>(
     rt: R,
     alloc: Global,

@@ -20,7 +20,7 @@ use std::random::RandomSource;
 use std::sync::Wait;
 use std::test::*;
 
-/// A peer of two, which says to the other what goes into the one link and hears what comes of the other.
+/// One of two peers. What it says goes into one link, and what it hears comes from the other link.
 #[derive(Clone, Copy)]
 struct Talker<'a> {
     pair: Pair,
@@ -28,7 +28,7 @@ struct Talker<'a> {
     rounds: u64,
 }
 
-/// The task of a peer of two.
+/// The task of one of two peers.
 fn task_of<R: Wait + AllocGlobal + Copy + Drop>(
     rt: R,
     talker: Talker<'_>,
@@ -48,14 +48,14 @@ fn task_of<R: Wait + AllocGlobal + Copy + Drop>(
     task(rt.alloc(), pair, lines, rounds, ends)
 }
 
-/// What a side leaves: its events, as text, and how many ends.
+/// What remains of one of two peers: its events, as text, and how many ends.
 #[derive(Drop)]
 struct Left {
     events: String,
     ends: usize,
 }
 
-/// What a side leaves that gave this.
+/// What remains of one of two peers that gave this output.
 fn left_by_side<R: Wait + Drop>(
     alloc: Global,
     given: Result<FinishedTask<LinkEnds<R>>, PeerFault>,
@@ -69,7 +69,7 @@ fn left_by_side<R: Wait + Drop>(
     }
 }
 
-/// What two sides leave that hear each other.
+/// What remains of two peers that hear each other.
 fn hear_each_other<R>(
     rt: R,
     first: PeerTask<NoGate, LinkEnds<R>>,
@@ -86,7 +86,7 @@ where
     Ok((first, second))
 }
 
-/// What two peers leave that hear each other over links of `capacity` places.
+/// What remains of two peers that hear each other over links of `capacity` places.
 fn hear_over<R>(rt: R, both: &Both<'_>, capacity: usize) -> Result<(Left, Left), Fail>
 where
     R: Wait + RandomSource + AllocGlobal + Copy + Drop,
@@ -109,7 +109,7 @@ where
     Ok(hear_each_other(rt, first, second)?)
 }
 
-/// Checks that a side leaves its ends and its events.
+/// Checks that the ends and the events of one of two peers remain.
 fn check_left<R>(rt: &R, left: &Left, side: &Side<'_>, name: &str) -> Result<(), AllocError>
 where
     R: AllocGlobal + Abort,

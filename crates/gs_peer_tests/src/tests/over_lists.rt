@@ -1,5 +1,5 @@
-//! Two peers. Each hears over lists what the other says: that is written by hand, so each is played by itself. The same
-//! two hear each other over links.
+//! Two peers that hear over lists what the other says. That is written by hand, so each peer is played by itself. The same two
+//! peers hear each other over links in another test.
 use crate::tests::cases::{Case, NOTHING};
 use crate::tests::items::Word;
 use crate::tests::made::{ONE, TWO};
@@ -24,7 +24,7 @@ const FIRST_SCRIPT: &[(usize, u64, Call<'static>)] = &[
     (2, 2, Call::Publish("news", b"abc")),
 ];
 
-/// It hears after its last round what its neighbour says in that.
+/// After its last round it hears what its neighbour says in that round.
 const FIRST_EVENTS: &[Seen<'static>] = &[
     Seen::Subscribe("news"),
     Seen::RoundEnd(0),
@@ -63,7 +63,7 @@ const FIRST_SAYS: &[Word<'static>] = &[
 /// Peer 2 subscribes to `news` in round 0.
 const SECOND_SCRIPT: &[(usize, u64, Call<'static>)] = &[(1, 0, Call::Subscribe("news"))];
 
-/// It hears in round 3 what is published in round 2, and has nobody to send it on to.
+/// In round 3 it hears what is published in round 2, and has nobody to forward it to.
 const SECOND_EVENTS: &[Seen<'static>] = &[
     Seen::Subscribe("news"),
     Seen::RoundEnd(0),
@@ -111,11 +111,11 @@ pub const NEWS_OVER_LINKS: Both<'static> = Both {
     },
 };
 
-/// A life over lists, and what is reported of it.
+/// A run over lists, and what is reported about it.
 #[derive(Clone, Copy, Debug)]
 pub struct Reported<'a> {
     pub case: Case<'a>,
-    /// What it delivers, and at which moments, who is in its meshes at its end, and what its neighbours score then.
+    /// What it delivers and when, who is in its meshes at the end, and what its neighbours score then.
     pub report: &'a [Seen<'a>],
 }
 
@@ -172,7 +172,7 @@ fn name_of(topic: &Topic) -> &str {
     str::from_utf8(topic.0.as_slice()).unwrap_or("(no UTF-8)")
 }
 
-/// Adds what a life delivered, and at which moments.
+/// Adds what a run delivered, and at which moments.
 fn add_deliveries<S: Drop>(
     alloc: Global,
     text: &mut String,
@@ -191,7 +191,7 @@ fn add_deliveries<S: Drop>(
     Ok(())
 }
 
-/// What a life delivered, who was in its meshes at its end, and what its neighbours scored then, as text.
+/// What a run delivered, who was in its meshes at its end, and what its neighbours scored then, as text.
 pub fn report_of<S: Drop>(alloc: Global, life: &FinishedTask<S>) -> Result<String, AllocError> {
     let mut text = String::new(alloc);
     add_deliveries(alloc, &mut text, life)?;

@@ -1,9 +1,9 @@
-//! Lives of two peers that hear each other, and what must be seen of them.
+//! Runs of two peers that hear each other, and what must be seen of them.
 use crate::tests::cases::SCRIPT;
 use crate::tests::over_lists::NEWS_OVER_LINKS;
 use gs_router_testkit::{Call, CasePart, Seen};
 
-/// What a peer does that another hears.
+/// One of two peers that hear each other.
 #[derive(Clone, Copy, Debug)]
 pub struct Side<'a> {
     /// Its lines, each with its place in the plan and its round.
@@ -12,7 +12,7 @@ pub struct Side<'a> {
     pub events: &'a [Seen<'a>],
 }
 
-/// Peers 1 and 2. What the one says in a round the other hears in the next.
+/// Peers 1 and 2. What one says in a round, the other hears in the next.
 #[derive(Clone, Copy, Debug)]
 pub struct Both<'a> {
     pub name: &'a str,
@@ -22,7 +22,7 @@ pub struct Both<'a> {
     pub second: Side<'a>,
 }
 
-/// Each subscribes in round 0 and publishes in round 1. The message is one, so the second copy is not delivered again.
+/// Each subscribes in round 0 and publishes in round 1. Both publish the same message, so the second copy is not delivered.
 const PUBLISH: Both<'static> = Both {
     name: "both publish",
     rounds: 2,
@@ -58,8 +58,8 @@ const PUBLISH: Both<'static> = Both {
     },
 };
 
-/// The first one publishes in round 1 and hangs up then. The second one hears the message, and then that it is left. What it
-/// says in round 1 the first one hears as late, and its close makes no entry there.
+/// The first one publishes in round 1 and then hangs up. The second one hears the message, and then that the first is gone. What
+/// the second one says in round 1, the first one hears as late. The close of the second one makes no entry there.
 const HANG_UP: Both<'static> = Both {
     name: "one hangs up",
     rounds: 3,
@@ -110,15 +110,15 @@ const HEAD: &[u8] = b"\x07\x0a\x05";
 
 const TAIL: &[u8] = b"\x08\x01\x12\x01a";
 
-/// The length of a body of ten bytes, and the key and the length of a field 15 of eight bytes, which nobody knows: as many as
-/// the frame of a subscription has.
+/// The length of a body of ten bytes, and the key and the length of the unknown field 15. The field has eight bytes, as many
+/// as the frame of a subscription.
 const UNFINISHED: &[u8] = b"\x0a\x7a\x08";
 
 /// A body of one byte, the key of a group.
 const MALFORMED: &[u8] = b"\x01\x0b";
 
-/// The first one says a frame in two texts in round 0, which the second one hears as a subscription. In round 1 its frame of a
-/// subscription to `b` completes another, which spells an RPC without any part. In round 2 it says what is no RPC.
+/// In round 0 the first one says a frame in two texts, which the second one hears as a subscription. In round 1 its frame of a
+/// subscription to `b` completes another frame, which spells an RPC without any part. In round 2 it says what is no RPC.
 const RAW: Both<'static> = Both {
     name: "one puts bytes on the link as they are",
     rounds: 3,

@@ -65,7 +65,7 @@ fn an_argument_that_is_no_text_is_an_error(rt: HostRuntime) {
     assert!(rt; arguments_of(&called).is_err_and(|it| it.kind() == ErrorKind::InvalidData));
 }
 
-/// Whether arguments that could not be read for this cause end so.
+/// Says whether arguments that could not be read for this cause end this way.
 fn are_refused(alloc: Global, cause: ErrorKind, line: &str, status: u8) -> bool {
     let mut errors = Vec::new(alloc);
     let code = refuse_unread(cause, &mut errors, "usage: gossip\n");

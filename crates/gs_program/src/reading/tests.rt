@@ -6,7 +6,7 @@ use std::test::*;
 const SCENARIO: &str = "round_ms = 1\nrounds = 1\nworkers = 1\ncapacity = 1\nseed = 0\n\
     topic = [{name = \"t\"}]\npeer = [{name = \"p\"}]\n";
 
-/// Whether a program that ends so has this status, or a plan where that is `Reported`.
+/// Says whether a program that ends this way has this status, or has a plan where the status is `Reported`.
 fn is_end(ended: &Result<Plan, ExitStatus>, wanted: ExitStatus) -> bool {
     match ended {
         Ok(_) => wanted == ExitStatus::Reported,
@@ -14,14 +14,14 @@ fn is_end(ended: &Result<Plan, ExitStatus>, wanted: ExitStatus) -> bool {
     }
 }
 
-/// Whether this fault of a reading ends the program so, with this line on errors.
+/// Says whether this fault of a reading ends the program this way, with this line on errors.
 fn ends_unread(alloc: Global, fault: ReadFault, wanted: ExitStatus, line: &str) -> bool {
     let mut errors = Vec::new(alloc);
     let ended = plan_after(alloc, Err(fault), &mut errors);
     is_end(&ended, wanted) && errors.as_slice() == line.as_bytes()
 }
 
-/// Whether a text that was read ends the program so, with this line on errors.
+/// Says whether a text that was read ends the program this way, with this line on errors.
 fn ends_with(alloc: Global, text: Vec<u8>, wanted: ExitStatus, line: &str) -> bool {
     if text.len() > 8_388_608 {
         return false;

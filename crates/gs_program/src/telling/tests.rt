@@ -18,7 +18,8 @@ fn short(alloc: Global) -> Narrow {
     }
 }
 
-/// Whether such a line tells a fault of a run of the scenario, or a front of it where there is room for no more.
+/// Says whether this line reports a fault of a run of the scenario. It also reports the fault to a short writer, and ignores
+/// what that has.
 fn tells(alloc: Global, fault: NetFault, line: &str) -> bool {
     let Ok(plan) = read_plan(alloc, SCENARIO) else {
         return false;

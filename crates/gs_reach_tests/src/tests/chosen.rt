@@ -1,11 +1,11 @@
-//! Messages by some peers, and subscribers among some peers.
+//! Messages whose publisher is one of some peers, and subscribers that are among some peers.
 use crate::tests::made::{Did, Life, plan, report};
 use crate::tests::messages::are_pairs;
 use gs_base::{PeerNo, Seq};
 use gs_reach::{Chosen, MessageReach, accepted_pairs, chosen_messages, messages_of, pairs_among};
 use std::alloc::{AllocError, Global};
 
-/// Peers 0 and 1 publish a payload each, which comes to the others, and peer 1 then one that is rejected.
+/// Peers 0 and 1 publish a payload each, which reaches the others. Then peer 1 publishes one that is rejected.
 static LIVES: [Life; 3] = [
     Life {
         peer: 0,
@@ -33,7 +33,7 @@ static LIVES: [Life; 3] = [
     },
 ];
 
-/// Who publishes, who subscribes, and the rounds that all accepted pairs then have. No list is anybody.
+/// Who publishes, who subscribes, and the rounds that all accepted pairs then have. No list means any peer.
 struct Case {
     by: Option<&'static [u16]>,
     among: Option<&'static [u16]>,

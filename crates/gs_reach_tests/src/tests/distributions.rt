@@ -3,7 +3,7 @@ use gs_base::{PeerNo, Seq};
 use gs_reach::{Distribution, LIMITS, Pair, Within, distribution_of};
 use std::alloc::{AllocError, Global};
 
-/// The rounds of subscribers, how many there are, the limits with those that are reached within, and how many are missed.
+/// The rounds of subscribers, how many there are, the limits with how many are reached within each, and how many are missed.
 struct Case {
     name: &'static str,
     rounds: &'static [Option<u64>],
@@ -105,7 +105,7 @@ fn subscribers_are_counted_within_limits(rt: HostRuntime) -> Result<(), AllocErr
     Ok(())
 }
 
-/// How many limits are told of, and the last one with those that are reached within it.
+/// How many limits a distribution has, and the last one with how many are reached within it.
 fn last_limit(alloc: Global, rounds: u64) -> Result<(usize, Option<Within>), AllocError> {
     let told = distribution(alloc, &[Some(rounds)])?;
     let last = told.within.as_slice().last().copied();

@@ -28,7 +28,7 @@ pub(crate) enum Did {
     Faults(u16),
 }
 
-/// What is left of a peer: what it did, with the moments.
+/// What a run leaves of a peer: what it did, with the moments.
 #[derive(Clone, Copy)]
 pub(crate) struct Life {
     pub peer: u16,

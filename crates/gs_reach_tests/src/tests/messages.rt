@@ -1,11 +1,11 @@
-//! How far messages come.
+//! How far messages get.
 use crate::tests::made::{Did, Life, plan, report};
 use gs_base::{Millis, PeerNo, Verdict};
 use gs_reach::{MessageReach, Pair, messages_of};
 use std::alloc::{AllocError, Global};
 
-/// What is to be told of a message: its topic, its first publisher and its moment, how many peers publish it, what
-/// validation says, and each subscriber with the rounds.
+/// What a message should have: its topic, its first publisher, its moment, its number of publishers, its verdict, and each
+/// subscriber with the rounds.
 pub(crate) struct Row {
     pub topic: &'static str,
     pub peer: u16,

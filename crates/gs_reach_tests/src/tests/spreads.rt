@@ -3,7 +3,7 @@ use gs_base::PeerNo;
 use gs_reach::{Pair, Spread, missed, reached, reached_within, spread_of};
 use std::alloc::{AllocError, Global};
 
-/// Subscribers, the first of which is reached in 1 round, the second in 2, and so on, and then some that are not reached.
+/// Subscribers: the first is reached in 1 round, the second in 2, and so on. Then come some that are not reached.
 pub(crate) fn pairs(alloc: Global, reached: u16, missed: u16) -> Result<Vec<Pair>, AllocError> {
     let mut pairs = Vec::new(alloc);
     for number in 0..missed {
@@ -122,7 +122,7 @@ fn percentiles_are_of_all_subscribers(rt: HostRuntime) -> Result<(), AllocError>
     Ok(())
 }
 
-/// How many of ten subscribers, three of which are not reached, are reached within some rounds.
+/// How many of ten subscribers are reached within some rounds. Three of the ten are not reached.
 fn counts(alloc: Global) -> Result<[u64; 6], AllocError> {
     let pairs = pairs(alloc, 7, 3)?;
     Ok([

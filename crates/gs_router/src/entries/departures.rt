@@ -1,4 +1,4 @@
-//! Neighbours that are lost, and what is refused where a link is not open.
+//! Neighbours that are lost, and what is refused if a link is not open.
 ghost use Rattle.std.specs.Prelude.{◌≡◌, [], ◌∷◌, ◌++◌, not, IfOk, OnOk, List, filter, map};
 ghost use Rattle.gs_base.specs.declared.mark.Mark.TheVariants.{Unfanned};
 ghost use Rattle.gs_base.specs.declared.names.Topic.{Topic as TopicValue};
@@ -18,7 +18,7 @@ use gs_base::{Mark, Millis, PeerNo, Seq, Topic, clone_of};
 use gs_rules::{Effects, Refusal};
 use std::alloc::AllocError;
 
-/// The effects of an event by which a neighbour is lost: it leaves every mesh and every fanout.
+/// Returns the effects of an event by which a neighbour is lost. The neighbour leaves every mesh and every fanout.
 pub fn lost(known: &Known, peer: PeerNo, now: Millis) -> Result<Effects, AllocError>
     ensures { IfOk result (λ effects. (L : Entries)
         → Knows known.now now.0 L
@@ -31,7 +31,7 @@ pub fn lost(known: &Known, peer: PeerNo, now: Millis) -> Result<Effects, AllocEr
     })
 }
 
-/// What is remembered where a neighbour is lost.
+/// Returns what is remembered when a neighbour is lost.
 fn losing_marks(known: &Known, peer: PeerNo, now: Millis) -> Result<Seq<Mark>, AllocError>
     ensures { IfOk result (λ marks. (L : Entries)
         → Knows known.now now.0 L
@@ -45,7 +45,7 @@ fn losing_marks(known: &Known, peer: PeerNo, now: Millis) -> Result<Seq<Mark>, A
     Ok(marks)
 }
 
-/// A neighbour leaves the fanouts of these topics in which it is.
+/// Lets a neighbour leave the fanouts of these topics that it is in.
 fn unfan_everywhere(
     known: &Known,
     marks: &mut Seq<Mark>,
@@ -65,7 +65,7 @@ fn unfan_everywhere(
     Ok(())
 }
 
-/// Why nothing may be done to a neighbour's link.
+/// Returns why nothing may be done to a neighbour's link, if that is so.
 pub fn refusal_of_link(known: &Known, peer: PeerNo) -> Option<Refusal>
     ensures { (L : Entries)
         → Agrees known.now.tables L

@@ -1,4 +1,4 @@
-//! What neighbours sent or promised that came to nothing.
+//! What neighbours sent or promised in vain.
 ghost use Rattle.std.specs.Prelude.{◌≡◌, ◌++◌, ◌&&◌, [], ◌∷◌, IfOk, OnOk, if◌then◌else◌, map, nat_le};
 ghost use Rattle.gs_base.specs.Names.{same_peer, topic_or_empty};
 ghost use Rattle.gs_rules.specs.Tables.{Entries};
@@ -20,7 +20,7 @@ use gs_base::{Graft, IWant, Millis, MsgId, PeerNo, Topic};
 use gs_rules::{Event, Fallen, GraftAnswer, NoAnswer, Promise, RpcPart};
 use std::alloc::{AllocError, Global};
 
-/// What came to nothing at an event that comes next.
+/// Returns what was sent or promised in vain, at an event that comes next.
 pub fn fell_away(known: &Known, event: &Event, now: Millis) -> Result<Vec<Fallen>, AllocError>
     ensures { IfOk result (λ list. (L : Entries)
         → Knows known.now now.0 L
@@ -147,7 +147,7 @@ fn each_ignored(alloc: Global, from: PeerNo, ids: &[MsgId]) -> Result<Vec<Fallen
 
 // ---- promises
 
-/// The promises of neighbours that are up whose time has come.
+/// Returns the overdue promises of neighbours that are up.
 fn broken_promises(known: &Known, now: Millis) -> Result<Vec<Fallen>, AllocError>
     ensures { IfOk result (λ list. (L : Entries)
         → Agrees known.now.tables L
@@ -160,7 +160,7 @@ fn broken_promises(known: &Known, now: Millis) -> Result<Vec<Fallen>, AllocError
     Ok(list)
 }
 
-/// Adds the promises of a neighbour whose time has come, if it is up.
+/// Adds the overdue promises of a neighbour, if it is up.
 fn add_broken_promises(
     known: &Known,
     list: &mut Vec<Fallen>,

@@ -1,4 +1,4 @@
-//! What neighbours say of their meshes (gossipsub v1.0, "Control messages", GRAFT and PRUNE; v1.1, "Prune Backoff").
+//! What neighbours say about their meshes (gossipsub v1.0, "Control messages", GRAFT and PRUNE; v1.1, "Prune Backoff").
 ghost use Rattle.std.specs.Prelude.{◌≡◌, IfOk};
 ghost use Rattle.gs_base.specs.Names.{topic_or_empty};
 ghost use Rattle.gs_rules.specs.Tables.{Entries};
@@ -15,7 +15,7 @@ use gs_base::{Graft, LONGEST_BACKOFF, Mark, Millis, PeerNo, Prune, Rpc, Seq, Sha
 use gs_rules::{Effects, GraftAnswer, GraftRefusal};
 use std::alloc::{AllocError, Global};
 
-/// Whether there is no room in the mesh of a topic for one that was not dialled.
+/// Says whether the mesh of a topic has no room for a neighbour that was not dialled.
 fn is_full_for(known: &Known, peer: PeerNo, topic: &Topic) -> bool
     ensures { (L : Entries)
         → Agrees known.now.tables L
@@ -29,7 +29,7 @@ fn is_full_for(known: &Known, peer: PeerNo, topic: &Topic) -> bool
 
 // ---- a GRAFT
 
-/// What becomes of a GRAFT on a topic.
+/// Returns what becomes of a GRAFT on a topic.
 pub fn graft_answer(known: &Known, from: PeerNo, topic: &Topic, now: Millis) -> GraftAnswer
     ensures { (L : Entries)
         → Knows known.now now.0 L
@@ -56,7 +56,7 @@ pub fn graft_answer(known: &Known, from: PeerNo, topic: &Topic, now: Millis) -> 
     GraftAnswer::Taken
 }
 
-/// A GRAFT is refused: its sender is sent a PRUNE, and is not to come back for a while.
+/// Refuses a GRAFT: its sender gets a PRUNE, and may not come back for a while.
 fn refusing(
     known: &Known,
     from: PeerNo,
@@ -79,7 +79,7 @@ fn refusing(
     })
 }
 
-/// The sender of a GRAFT comes into the mesh.
+/// Lets the sender of a GRAFT come into the mesh.
 fn taking(alloc: Global, from: PeerNo, topic: &Topic) -> Result<Effects, AllocError>
     ensures { IfOk result (λ effects. effects ≡ taking from topic.now) }
 {
@@ -92,7 +92,7 @@ fn taking(alloc: Global, from: PeerNo, topic: &Topic) -> Result<Effects, AllocEr
     })
 }
 
-/// What counts against the sender of a GRAFT that is refused.
+/// Returns what counts against the sender of a GRAFT that is refused.
 fn charged(alloc: Global, from: PeerNo, why: GraftRefusal) -> Result<Seq<Mark>, AllocError>
     ensures { IfOk result (λ marks. marks ≡ charged from why) }
 {
@@ -104,7 +104,7 @@ fn charged(alloc: Global, from: PeerNo, why: GraftRefusal) -> Result<Seq<Mark>, 
     }
 }
 
-/// The effects of a GRAFT that is answered so.
+/// Returns the effects of a GRAFT with this answer.
 fn graft_effects(
     known: &Known,
     from: PeerNo,
@@ -129,7 +129,7 @@ fn graft_effects(
     }
 }
 
-/// The effects of a GRAFT: it may come too soon, be refused, be passed over, or bring its sender into the mesh.
+/// Returns the effects of a GRAFT. It may come too soon, be refused, be passed over, or bring its sender into the mesh.
 pub fn graft(known: &Known, from: PeerNo, graft: &Graft, now: Millis) -> Result<Effects, AllocError>
     ensures { IfOk result (λ effects. (L : Entries)
         → Knows known.now now.0 L
@@ -143,8 +143,8 @@ pub fn graft(known: &Known, from: PeerNo, graft: &Graft, now: Millis) -> Result<
 
 // ---- a PRUNE
 
-/// For how many seconds the sender of a PRUNE is not to be grafted: those that it names, up to a day, and
-/// `otherwise` where it names none or 0.
+/// Returns for how many seconds the sender of a PRUNE may not be grafted. They are the seconds that the PRUNE names, up to a
+/// day, or `otherwise` if it names none or 0.
 fn asked_backoff(otherwise: u64, asked: Option<u64>) -> u64
     ensures { result ≡ asked_backoff otherwise asked }
 {
@@ -155,7 +155,7 @@ fn asked_backoff(otherwise: u64, asked: Option<u64>) -> u64
     }
 }
 
-/// The effects of a PRUNE: where the router is subscribed, its sender leaves the mesh, and is not to be grafted for a
+/// Returns the effects of a PRUNE. If the router is subscribed, the sender leaves the mesh, and may not be grafted for a
 /// while.
 pub fn prune(known: &Known, from: PeerNo, prune: &Prune, now: Millis) -> Result<Effects, AllocError>
     ensures { IfOk result (λ effects. (L : Entries)
@@ -170,7 +170,7 @@ pub fn prune(known: &Known, from: PeerNo, prune: &Prune, now: Millis) -> Result<
     Ok(effects)
 }
 
-/// The effects of a PRUNE on a topic that the router is subscribed to.
+/// Returns the effects of a PRUNE on a topic that the router is subscribed to.
 fn pruned(
     known: &Known,
     from: PeerNo,

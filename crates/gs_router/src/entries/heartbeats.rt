@@ -1,4 +1,4 @@
-//! Heartbeats: broken promises count against who made them, and neighbours are sent gossip.
+//! Heartbeats: broken promises count against the neighbours that made them, and neighbours are sent gossip.
 ghost use Rattle.std.specs.Prelude.{◌≡◌, ◌++◌, ◌&&◌, ◌||◌, [], ◌∷◌, IfOk, OnOk, if◌then◌else◌, map, nat_le};
 ghost use Rattle.gs_base.specs.Names.{same_peer};
 ghost use Rattle.gs_base.specs.declared.mark.Mark.TheVariants.{Misbehaviour};
@@ -24,7 +24,7 @@ use std::alloc::AllocError;
 
 // ---- promises
 
-/// The effects of the beginning of a heartbeat.
+/// Returns the effects of the beginning of a heartbeat.
 pub fn beat_begin(known: &Known, now: Millis) -> Result<Effects, AllocError>
     ensures { IfOk result (λ effects. (L : Entries)
         → Agrees known.now.tables L
@@ -37,7 +37,7 @@ pub fn beat_begin(known: &Known, now: Millis) -> Result<Effects, AllocError>
     })
 }
 
-/// A mark for each broken promise of a neighbour that is up.
+/// Returns a mark for each broken promise of a neighbour that is up.
 fn all_charges(known: &Known, now: Millis) -> Result<Seq<Mark>, AllocError>
     ensures { IfOk result (λ list. (L : Entries)
         → Agrees known.now.tables L
@@ -92,7 +92,7 @@ fn charge_for(
 
 // ---- gossip
 
-/// The effects of gossip on a topic.
+/// Returns the effects of gossip on a topic.
 pub fn gossip<W: Words>(
     known: &Known,
     topic: &Topic,
@@ -113,7 +113,7 @@ pub fn gossip<W: Words>(
     Ok(effects)
 }
 
-/// The neighbours that may be sent gossip on a topic.
+/// Returns the neighbours that may be sent gossip on a topic.
 fn gossip_candidates(known: &Known, topic: &Topic, now: Millis) -> Result<Vec<PeerNo>, AllocError>
     ensures { IfOk result (λ found. (L : Entries)
         → Knows known.now now.0 L
@@ -155,7 +155,7 @@ fn is_inside(known: &Known, topic: &Topic, peer: PeerNo) -> bool
         || known.tables.memberships.is_fanned(peer, topic)
 }
 
-/// How many of `count` neighbours are sent gossip.
+/// Returns how many of `count` neighbours are sent gossip.
 fn gossip_size(setup: &Setup, count: usize) -> usize
     ensures { result ≡ gossip_size (peer_with setup.now) count }
 {
@@ -164,7 +164,7 @@ fn gossip_size(setup: &Setup, count: usize) -> usize
     size.min(count as u128) as usize
 }
 
-/// These neighbours are sent gossip on a topic.
+/// Returns the effects of gossip on a topic that is sent to these neighbours.
 fn gossiping(known: &Known, topic: &Topic, chosen: &[PeerNo]) -> Result<Effects, AllocError>
     ensures { IfOk result (λ effects. (L : Entries)
         → Agrees known.now.tables L

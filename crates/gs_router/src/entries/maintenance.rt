@@ -23,7 +23,7 @@ use std::alloc::AllocError;
 
 // ---- meshes
 
-/// A neighbour with its score, and with whether this side dialled it.
+/// Returns a neighbour as a member, with its score and whether this side dialled it.
 fn scored_member(known: &Known, peer: PeerNo, now: Millis) -> Member
     ensures { (L : Entries)
         → Knows known.now now.0 L
@@ -48,7 +48,8 @@ fn scored_members(known: &Known, peers: &[PeerNo], now: Millis) -> Result<Vec<Me
     Ok(members)
 }
 
-/// What is remembered of those who leave a mesh at a heartbeat: each is charged, and is not to come back for a while.
+/// Returns what is remembered about those who leave a mesh at a heartbeat. Each is charged, and may not come back for a
+/// while.
 fn parting(
     known: &Known,
     topic: &Topic,
@@ -69,7 +70,7 @@ fn parting(
     Ok(marks)
 }
 
-/// Some leave the mesh of a topic, and others come into it.
+/// Lets some leave the mesh of a topic, and others come into it.
 fn mending(
     known: &Known,
     topic: &Topic,
@@ -104,7 +105,7 @@ fn mending(
     })
 }
 
-/// The effects of a heartbeat on the mesh of a topic, which is mended.
+/// Returns the effects of a heartbeat on the mesh of a topic, which is mended.
 pub fn mesh_beat<W: Words>(
     known: &Known,
     topic: &Topic,
@@ -132,7 +133,7 @@ pub fn mesh_beat<W: Words>(
 
 // ---- fanouts
 
-/// These come into the fanout of a topic, and whoever is none of the receivers leaves it.
+/// Lets these come into the fanout of a topic, and lets all that are not among the receivers leave it.
 fn refanning(
     known: &Known,
     topic: &Topic,
@@ -155,7 +156,7 @@ fn refanning(
     })
 }
 
-/// The effects of a heartbeat on the fanout of a topic, which is mended.
+/// Returns the effects of a heartbeat on the fanout of a topic, which is mended.
 pub fn fan_beat<W: Words>(
     known: &Known,
     topic: &Topic,
@@ -179,7 +180,7 @@ pub fn fan_beat<W: Words>(
     Ok(effects)
 }
 
-/// The effects of the end of the fanout of a topic.
+/// Returns the effects of the end of the fanout of a topic.
 pub fn fan_end(known: &Known, topic: &Topic) -> Result<Effects, AllocError>
     ensures { IfOk result (λ effects. (L : Entries)
         → Agrees known.now.tables L

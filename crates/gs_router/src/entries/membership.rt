@@ -1,4 +1,4 @@
-//! What it leaves to be remembered that neighbours come into meshes and leave them.
+//! What is remembered when neighbours come into meshes and leave them.
 ghost use Rattle.std.specs.Prelude.{◌≡◌, ◌+◌, ◌*◌, ◌++◌, min, IfOk, OnOk, map};
 ghost use Rattle.std.specs.List.{flat_map};
 ghost use Rattle.gs_base.specs.declared.names.PeerNo.{PeerNo as PeerNoValue};
@@ -13,7 +13,7 @@ use crate::known::Known;
 use gs_base::{Mark, Millis, PeerNo, Seq, Topic, clone_of};
 use std::alloc::{AllocError, Global};
 
-/// These neighbours, each with one topic.
+/// Returns these neighbours, each with one topic.
 pub fn each_on(
     alloc: Global,
     topic: &Topic,
@@ -28,7 +28,7 @@ pub fn each_on(
     Ok(pairs)
 }
 
-/// A neighbour with each of these topics in whose mesh it is.
+/// Returns a neighbour with each of these topics that has it in its mesh.
 pub fn meshes_with(
     known: &Known,
     peer: PeerNo,
@@ -47,7 +47,7 @@ pub fn meshes_with(
     Ok(pairs)
 }
 
-/// These come into these meshes.
+/// Adds marks by which these neighbours come into these meshes.
 pub fn enter(marks: &mut Seq<Mark>, pairs: &[(PeerNo, Topic)]) -> Result<(), AllocError>
     ensures { OnOk result (marks.new ≡ marks.old ++ entering pairs.now) }
 {
@@ -57,7 +57,7 @@ pub fn enter(marks: &mut Seq<Mark>, pairs: &[(PeerNo, Topic)]) -> Result<(), All
     Ok(())
 }
 
-/// These leave these meshes, and each is charged with what is missing of its deliveries there.
+/// Adds marks by which these neighbours leave these meshes. Each is charged with what is missing of its deliveries there.
 pub fn leave(
     known: &Known,
     marks: &mut Seq<Mark>,
@@ -83,7 +83,7 @@ fn prune(marks: &mut Seq<Mark>, pairs: &[(PeerNo, Topic)]) -> Result<(), AllocEr
     Ok(())
 }
 
-/// Each of these is charged with what is missing of its deliveries in a mesh.
+/// Charges each of these with what is missing of its deliveries in a mesh.
 fn charge_deficits(
     known: &Known,
     marks: &mut Seq<Mark>,
@@ -100,7 +100,7 @@ fn charge_deficits(
     Ok(())
 }
 
-/// A neighbour is charged with what is missing of its deliveries in a mesh, if anything is.
+/// Charges a neighbour with what is missing of its deliveries in a mesh, if anything is.
 fn charge_deficit(
     known: &Known,
     marks: &mut Seq<Mark>,
@@ -119,7 +119,7 @@ fn charge_deficit(
     Ok(())
 }
 
-/// These are not to come back for this many seconds.
+/// Adds marks by which these neighbours may not come back for a number of seconds.
 pub fn bar(
     marks: &mut Seq<Mark>,
     pairs: &[(PeerNo, Topic)],
@@ -135,14 +135,14 @@ pub fn bar(
     Ok(())
 }
 
-/// The moment this many seconds later, or the last one that there is.
+/// Returns the moment that is a number of seconds later, or the last one that there is.
 fn end_of(now: Millis, seconds: u64) -> Millis
     ensures { result.0 ≡ min last_millis (now.0 + 1_000 * seconds) }
 {
     Millis(now.0.saturating_add(seconds.saturating_mul(1_000)))
 }
 
-/// These come into the fanout of a topic.
+/// Adds marks by which these neighbours come into the fanout of a topic.
 pub fn fan(marks: &mut Seq<Mark>, topic: &Topic, peers: &[PeerNo]) -> Result<(), AllocError>
     ensures { OnOk result (marks.new ≡ marks.old ++ fanning topic.now peers.now) }
 {
@@ -152,7 +152,7 @@ pub fn fan(marks: &mut Seq<Mark>, topic: &Topic, peers: &[PeerNo]) -> Result<(),
     Ok(())
 }
 
-/// These leave the fanout of a topic.
+/// Adds marks by which these neighbours leave the fanout of a topic.
 pub fn unfan(marks: &mut Seq<Mark>, topic: &Topic, peers: &[PeerNo]) -> Result<(), AllocError>
     ensures { OnOk result (marks.new ≡ marks.old ++ unfanning topic.now peers.now) }
 {

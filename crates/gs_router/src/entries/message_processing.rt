@@ -1,4 +1,4 @@
-//! What becomes of a message that a neighbour passed on (gossipsub v1.0, "Message Processing").
+//! What happens with a message that a neighbour passed on (gossipsub v1.0, "Message Processing").
 ghost use Rattle.std.specs.Prelude.{◌≡◌, ◌++◌, [], ◌∷◌, Some, IfOk};
 ghost use Rattle.std.specs.Map.{lookup};
 ghost use Rattle.gs_base.specs.declared.names.MsgId.{MsgId as MsgIdValue};
@@ -77,8 +77,7 @@ fn again(id: MsgId, is_near: bool) -> Outcome
     Outcome::Dropped
 }
 
-/// Whether a neighbour is in the mesh of a topic that is named, passes on what was seen a moment ago, and did not do so
-/// before.
+/// Says whether a neighbour is in the mesh of a named topic, passes on what was seen a moment ago, and did not before.
 fn is_near(
     known: &Known,
     from: PeerNo,
@@ -164,7 +163,7 @@ fn verdict_by(topics: &[(Topic, TopicParams)], topic: &Topic, payload: &[u8]) ->
     Verdict::Accept
 }
 
-/// What a payload is found to be by these parameters: to reject goes before to ignore.
+/// Returns what a payload is found to be by these parameters. Rejecting takes precedence over ignoring.
 fn verdict_with(params: &TopicParams, payload: &[u8]) -> Verdict
     ensures { result ≡ verdict_by (Some params.now) payload.now }
 {
@@ -185,7 +184,7 @@ fn begins_with_one(prefixes: &[Bytes], payload: &[u8]) -> bool
         .any(|prefix| payload.starts_with(prefix.as_slice()))
 }
 
-/// What is remembered of a message that a neighbour was the first to pass on, and that is accepted.
+/// Returns what is remembered about an accepted message that a neighbour was the first to pass on.
 fn accepted(
     alloc: Global,
     from: PeerNo,
@@ -352,7 +351,7 @@ fn explicit_on(known: &Known, topic: &Option<Topic>) -> Result<Vec<PeerNo>, Allo
     }
 }
 
-/// The effects of a message that a neighbour passed on.
+/// Returns the effects of a message that a neighbour passed on.
 pub fn effects_of(
     known: &Known,
     payloads: &mut Payloads,

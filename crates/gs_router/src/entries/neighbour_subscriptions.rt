@@ -11,7 +11,7 @@ use gs_base::{Millis, PeerNo, Seq, SubOpt, Topic, clone_of};
 use gs_rules::Effects;
 use std::alloc::AllocError;
 
-/// The effects of a neighbour that subscribes to a topic, or leaves it.
+/// Returns the effects of a neighbour that subscribes to a topic, or leaves it.
 pub fn effects_of(
     known: &Known,
     from: PeerNo,
@@ -29,7 +29,7 @@ pub fn effects_of(
     Ok(effects)
 }
 
-/// The effects of a neighbour that leaves a topic: it leaves the mesh and the fanout.
+/// Returns the effects of a neighbour that leaves a topic. It leaves the mesh and the fanout.
 fn leaving(known: &Known, from: PeerNo, sub: &SubOpt, now: Millis) -> Result<Effects, AllocError>
     ensures { IfOk result (λ effects. (L : Entries)
         → Knows known.now now.0 L

@@ -1,4 +1,4 @@
-//! Offers: what a router asks for of what a neighbour offers.
+//! Offers: what a router asks for when a neighbour offers messages.
 ghost use Rattle.std.specs.Prelude.{◌≡◌, ◌≤◌, ◌<◌, [], IfOk, OnOk, length, filter, take, get_or};
 ghost use Rattle.std.specs.List.{AllByRecursion};
 ghost use Rattle.gs_base.specs.Names.{HasIdentifierLength};
@@ -18,7 +18,8 @@ use gs_rules::{Effects, Promise};
 use indexmap::IndexSet;
 use std::alloc::{AllocError, Global};
 
-/// The effects of an offer (IHAVE): its sender is asked for what is wanted of it, within its budget.
+/// Returns the effects of an offer (IHAVE). Its sender is asked for those offered messages that are wanted, within its
+/// budget.
 pub fn effects_of<W: Words>(
     known: &Known,
     from: PeerNo,
@@ -70,7 +71,7 @@ fn is_wanted(known: &Known, bytes: &Bytes, now: Millis) -> bool
     }
 }
 
-/// Adds what is wanted of one identifier that is offered.
+/// Adds one offered identifier, if it is wanted.
 fn add_wanted(
     known: &Known,
     found: &mut IndexSet<Bytes>,
@@ -108,7 +109,7 @@ fn wanted(
     Ok(ids)
 }
 
-/// These identifiers as a list of its own, which shares them.
+/// Returns a new list of these identifiers, which shares them.
 fn copied_ids(alloc: Global, ids: &[Bytes]) -> Result<Seq<Bytes>, AllocError>
     ensures { IfOk result (λ list. list ≡ ids.now) }
 {
@@ -142,7 +143,7 @@ fn ask<W: Words>(
     Ok(effects)
 }
 
-/// A neighbour is asked for these, and promises the one at this place among them.
+/// Returns the effects of asking a neighbour for these. It promises the one at a place among them.
 fn asking(
     known: &Known,
     from: PeerNo,

@@ -40,7 +40,7 @@ pub struct Publishing<'a> {
     pub id: MsgId,
 }
 
-/// What is delivered to the router's own user of a payload that it publishes.
+/// Returns what is delivered to the router's own user when it publishes a payload.
 fn delivered(known: &Known, publishing: Publishing<'_>) -> Result<Seq<(Topic, Bytes)>, AllocError>
     ensures { IfOk result (λ list. (L : Entries)
         → Agrees known.now.tables L
@@ -57,7 +57,7 @@ fn delivered(known: &Known, publishing: Publishing<'_>) -> Result<Seq<(Topic, By
     }
 }
 
-/// What is remembered of a payload that is published to these.
+/// Returns what is remembered about a payload that is published to these.
 fn published(
     alloc: Global,
     publishing: Publishing<'_>,
@@ -135,7 +135,7 @@ fn sending(
     })
 }
 
-/// The effects of a payload that goes to the fanout of its topic, which is some.
+/// Returns the effects of a payload that goes to the fanout of its topic, which is not empty.
 fn to_fanout(known: &Known, publishing: Publishing<'_>, now: Millis) -> Result<Effects, AllocError>
     requires { publishing.id ≡ message_id publishing.payload.now }
     ensures { IfOk result (λ effects. (L : Entries)
@@ -151,7 +151,8 @@ fn to_fanout(known: &Known, publishing: Publishing<'_>, now: Millis) -> Result<E
     Ok(effects)
 }
 
-/// The effects of a payload that goes to some of those that may be in the fanout of its topic, which become it.
+/// Returns the effects of a payload that goes to some of those that may be in the fanout of its topic. They become its
+/// fanout.
 fn to_new_fanout<W: Words>(
     known: &Known,
     publishing: Publishing<'_>,
@@ -192,7 +193,7 @@ fn without_fanout(
     Ok(effects)
 }
 
-/// The effects of a payload that the router's own user publishes.
+/// Returns the effects of a payload that the router's own user publishes.
 pub fn publish<W: Words>(
     known: &Known,
     publishing: Publishing<'_>,
@@ -227,7 +228,7 @@ pub fn publish<W: Words>(
     Ok(effects)
 }
 
-/// Why the router may not publish a payload with this identifier on a topic.
+/// Returns why the router may not publish a payload with this identifier on a topic, if that is so.
 pub fn refusal_of_publish(
     known: &Known,
     topic: &Topic,

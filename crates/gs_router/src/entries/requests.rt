@@ -23,7 +23,7 @@ use gs_rules::{Effects, Fallen, NoAnswer};
 use indexmap::IndexMap;
 use std::alloc::{AllocError, Global};
 
-/// The effects of a request (IWANT): its sender gets what is kept of it, as often as it may.
+/// Returns the effects of a request (IWANT). Its sender gets those messages of it that are kept, as often as it may.
 pub fn effects_of(
     known: &Known,
     from: PeerNo,
@@ -41,7 +41,7 @@ pub fn effects_of(
     Ok(effects)
 }
 
-/// The effects of a request that is answered.
+/// Returns the effects of a request that is answered.
 fn answering(known: &Known, from: PeerNo, request: &IWant) -> Result<Effects, AllocError>
     ensures { IfOk result (λ effects. (L : Entries)
         → Agrees known.now.tables L
@@ -58,7 +58,7 @@ fn answering(known: &Known, from: PeerNo, request: &IWant) -> Result<Effects, Al
     Ok(effects)
 }
 
-/// The identifiers among these bytes: those of another length are passed over.
+/// Returns the identifiers among these byte strings. Those of another length are passed over.
 pub fn ids_in(alloc: Global, all: &[Bytes]) -> Result<Vec<MsgId>, AllocError>
     ensures { IfOk result (λ ids. ids.items ≡ ids_in all.now) }
 {
@@ -166,7 +166,7 @@ fn reply_to(known: &Known, from: PeerNo, ids: &[MsgId]) -> Result<Reply, AllocEr
 
 // ---- what is not answered
 
-/// Those of these identifiers that get no message.
+/// Returns those of these identifiers that get no message.
 pub fn without_answers(
     known: &Known,
     from: PeerNo,
@@ -212,7 +212,7 @@ fn is_answered(
     Ok(before < reply.marks.len())
 }
 
-/// Why a neighbour gets no message for an identifier.
+/// Returns why a neighbour gets no message for an identifier.
 fn why_no_answer(known: &Known, id: &MsgId, from: PeerNo) -> NoAnswer
     ensures { (L : Entries)
         → Agrees known.now.tables L

@@ -17,9 +17,9 @@ use crate::peer_set::PeerSet;
 use gs_base::{Millis, PeerNo, Topic};
 use std::alloc::AllocError;
 
-// ---- whom to send to
+// ---- who may be sent to
 
-/// The neighbours that are up, ascending by number.
+/// Returns the neighbours that are up, ascending by number.
 pub fn up_neighbours(known: &Known) -> Result<Vec<PeerNo>, AllocError>
     ensures { IfOk result (λ receivers. (L : Entries)
         → Agrees known.now.tables L
@@ -34,7 +34,7 @@ pub fn up_neighbours(known: &Known) -> Result<Vec<PeerNo>, AllocError>
     Ok(receivers)
 }
 
-/// The neighbours that are up and on a topic.
+/// Returns the neighbours that are up and on a topic.
 pub fn listeners(known: &Known, topic: &Topic) -> Result<Vec<PeerNo>, AllocError>
     ensures { IfOk result (λ receivers. (L : Entries)
         → Agrees known.now.tables L
@@ -63,14 +63,14 @@ fn up_among(known: &Known, set: &PeerSet) -> Result<Vec<PeerNo>, AllocError>
     Ok(receivers)
 }
 
-/// Whether a neighbour is explicit (gossipsub v1.1, "Explicit Peering Agreements").
+/// Says whether a neighbour is explicit (gossipsub v1.1, "Explicit Peering Agreements").
 pub fn is_explicit(known: &Known, peer: PeerNo) -> bool
     ensures { ListsExplicit known.now.setup → result ≡ is_explicit (peer_with known.now.setup) peer }
 {
     known.setup.explicit.contains(&peer)
 }
 
-/// The explicit neighbours that are up and on a topic.
+/// Returns the explicit neighbours that are up and on a topic.
 pub fn explicit_listeners(known: &Known, topic: &Topic) -> Result<Vec<PeerNo>, AllocError>
     ensures { IfOk result (λ found. (L : Entries)
         → Agrees known.now.tables L
@@ -86,7 +86,7 @@ pub fn explicit_listeners(known: &Known, topic: &Topic) -> Result<Vec<PeerNo>, A
     Ok(found)
 }
 
-/// The neighbours that are up and on a topic, without the explicit ones.
+/// Returns the neighbours that are up and on a topic, without the explicit ones.
 pub fn ordinary_listeners(known: &Known, topic: &Topic) -> Result<Vec<PeerNo>, AllocError>
     ensures { IfOk result (λ found. (L : Entries)
         → Agrees known.now.tables L
@@ -102,7 +102,7 @@ pub fn ordinary_listeners(known: &Known, topic: &Topic) -> Result<Vec<PeerNo>, A
     Ok(found)
 }
 
-/// The neighbours that may be in the fanout of a topic.
+/// Returns the neighbours that may be in the fanout of a topic.
 pub fn receivers(known: &Known, topic: &Topic, now: Millis) -> Result<Vec<PeerNo>, AllocError>
     ensures { IfOk result (λ receivers. (L : Entries)
         → Knows known.now now.0 L
@@ -113,7 +113,7 @@ pub fn receivers(known: &Known, topic: &Topic, now: Millis) -> Result<Vec<PeerNo
     Ok(receivers)
 }
 
-/// Those of these neighbours that are not below the threshold.
+/// Returns those of these neighbours that are not below the threshold.
 pub fn not_passed_over(
     known: &Known,
     peers: &[PeerNo],
@@ -128,9 +128,9 @@ pub fn not_passed_over(
     Ok(receivers)
 }
 
-// ---- whom to graft
+// ---- who may be grafted
 
-/// Whether this side dialled a neighbour (gossipsub v1.1, "Outbound Mesh Quotas").
+/// Says whether this side dialled a neighbour (gossipsub v1.1, "Outbound Mesh Quotas").
 pub fn is_outbound(known: &Known, peer: PeerNo) -> bool
     ensures { result ≡ is_outbound (peer_with known.now.setup) peer }
 {
@@ -155,7 +155,7 @@ fn is_candidate(known: &Known, peer: PeerNo, topic: &Topic, now: Millis) -> bool
         && !thresholds::is_negative(known, peer, now)
 }
 
-/// The neighbours that may be grafted to the mesh of a topic.
+/// Returns the neighbours that may be grafted to the mesh of a topic.
 pub fn candidates(known: &Known, topic: &Topic, now: Millis) -> Result<Vec<PeerNo>, AllocError>
     ensures { IfOk result (λ found. (L : Entries)
         → Knows known.now now.0 L

@@ -5,7 +5,7 @@ ghost use Rattle.gs_rules.specs.Rules.{to_each};
 use gs_base::{PeerNo, Rpc, Seq, Shared, clone_of};
 use std::alloc::{AllocError, Global};
 
-/// One RPC to each of these, which share it.
+/// Returns one send of an RPC to each of these, which share it.
 pub fn to_each(
     alloc: Global,
     rpc: Rpc,
@@ -18,7 +18,7 @@ pub fn to_each(
     Ok(sends)
 }
 
-/// `to_each`, after what is sent already.
+/// Adds what `to_each` returns after what is already sent.
 pub fn send_to_each(
     alloc: Global,
     sends: &mut Seq<(PeerNo, Shared<Rpc>)>,

@@ -22,7 +22,7 @@ use gs_params::{Words, pick};
 use gs_rules::{Effects, Refusal};
 use std::alloc::AllocError;
 
-/// An announcement to every neighbour that is up.
+/// Returns an announcement to every neighbour that is up.
 fn announced(
     known: &Known,
     subscribes: bool,
@@ -38,7 +38,8 @@ fn announced(
     Ok(sends)
 }
 
-/// A subscription to a topic: its mesh is made of those of its fanout that may be grafted, and of others.
+/// Returns the effects of a subscription to a topic. Its mesh is made of members of its fanout that may be grafted, and of
+/// others.
 pub fn subscribe<W: Words>(
     known: &Known,
     topic: &Topic,
@@ -67,7 +68,7 @@ pub fn subscribe<W: Words>(
     Ok(effects)
 }
 
-/// The effects of a subscription by which these come into the mesh of its topic.
+/// Returns the effects of a subscription by which these come into the mesh of its topic.
 fn joining(known: &Known, topic: &Topic, chosen: &[PeerNo]) -> Result<Effects, AllocError>
     ensures { IfOk result (λ effects. (L : Entries)
         → Agrees known.now.tables L
@@ -91,7 +92,8 @@ fn joining(known: &Known, topic: &Topic, chosen: &[PeerNo]) -> Result<Effects, A
     })
 }
 
-/// The end of a subscription: each member of the mesh is sent a PRUNE, and is not to come back for a while.
+/// Returns the effects of the end of a subscription. Each member of the mesh gets a PRUNE, and may not come back for a
+/// while.
 pub fn unsubscribe(known: &Known, topic: &Topic, now: Millis) -> Result<Effects, AllocError>
     ensures { IfOk result (λ effects. (L : Entries)
         → Knows known.now now.0 L
@@ -117,7 +119,7 @@ pub fn unsubscribe(known: &Known, topic: &Topic, now: Millis) -> Result<Effects,
     })
 }
 
-/// Why the router may not subscribe to a topic.
+/// Returns why the router may not subscribe to a topic, if that is so.
 pub fn refusal_of_subscribe(known: &Known, topic: &Topic) -> Option<Refusal>
     ensures { (p : Peer) (L : Entries) (at : ℕ)
         → Agrees known.now.tables L
@@ -138,7 +140,7 @@ pub fn refusal_of_subscribe(known: &Known, topic: &Topic) -> Option<Refusal>
     None
 }
 
-/// Why the router may not leave a topic.
+/// Returns why the router may not leave a topic, if that is so.
 pub fn refusal_of_unsubscribe(known: &Known, topic: &Topic) -> Option<Refusal>
     ensures { (p : Peer) (L : Entries) (at : ℕ)
         → Agrees known.now.tables L

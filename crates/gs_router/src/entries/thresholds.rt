@@ -12,7 +12,7 @@ use crate::known::Known;
 use gs_base::{Millis, PeerNo};
 use std::alloc::AllocError;
 
-/// Whether the score of a neighbour is below a threshold, in millionths.
+/// Says whether the score of a neighbour is below a threshold, in millionths.
 pub fn is_below(known: &Known, threshold: i64, peer: PeerNo, now: Millis) -> bool
     ensures { (L : Entries)
         → Knows known.now now.0 L
@@ -21,8 +21,8 @@ pub fn is_below(known: &Known, threshold: i64, peer: PeerNo, now: Millis) -> boo
     known.tables.standings.score(peer, now) < i128::from(threshold)
 }
 
-/// Whether a neighbour scores below 0, and so may neither stay in a mesh nor come into one (gossipsub v1.1,
-/// "Heartbeat Maintenance").
+/// Says whether a neighbour scores below 0, and so may neither stay in a mesh nor come into one (gossipsub v1.1, "Heartbeat
+/// Maintenance").
 pub fn is_negative(known: &Known, peer: PeerNo, now: Millis) -> bool
     ensures { (L : Entries)
         → Knows known.now now.0 L
@@ -31,7 +31,7 @@ pub fn is_negative(known: &Known, peer: PeerNo, now: Millis) -> bool
     is_below(known, 0, peer, now)
 }
 
-/// Whether the offers and the requests of a neighbour count for nothing.
+/// Says whether the offers and the requests of a neighbour are ignored.
 pub fn is_ignored(known: &Known, peer: PeerNo, now: Millis) -> bool
     ensures { (L : Entries)
         → Knows known.now now.0 L
@@ -45,7 +45,7 @@ pub fn is_ignored(known: &Known, peer: PeerNo, now: Millis) -> bool
     )
 }
 
-/// Whether nothing that a neighbour sends counts. The graylist holds no explicit neighbour (gossipsub v1.1, "Explicit
+/// Says whether nothing that a neighbour sends counts. The graylist has no explicit neighbour (gossipsub v1.1, "Explicit
 /// Peering Agreements").
 pub fn is_graylisted(known: &Known, peer: PeerNo, now: Millis) -> bool
     ensures { (L : Entries)
@@ -61,7 +61,7 @@ pub fn is_graylisted(known: &Known, peer: PeerNo, now: Millis) -> bool
         )
 }
 
-/// Those of these neighbours whose scores are not below a threshold, in millionths.
+/// Returns those of these neighbours that do not score below a threshold, in millionths.
 pub fn not_below(
     known: &Known,
     threshold: i64,

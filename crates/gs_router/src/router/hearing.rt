@@ -15,12 +15,12 @@ use gs_params::Words;
 use gs_rules::{Event, Loss, Refusal};
 
 impl Router {
-    /// Hears an RPC that came from a neighbour and fits a frame, as all do that a reader gives. Where the
-    /// neighbour is not up, it is late, and has no effect; of one that is on the graylist, no part has any (gossipsub
-    /// v1.1, "Score Thresholds").
+    /// Hears an RPC that came from a neighbour and fits a frame, as every RPC from a reader does. If the neighbour is not
+    /// up, the RPC is late and has no effect. If the neighbour is on the graylist, no part of the RPC has an effect
+    /// (gossipsub v1.1, "Score Thresholds").
     ///
     /// # Errors
-    /// `Stopped` after the router was out of memory, and `NoMemory`.
+    /// `Stopped` after the router ran out of memory, and `NoMemory`.
     pub fn hear<W: Words>(
         &mut self,
         from: PeerNo,
@@ -40,10 +40,10 @@ impl Router {
         ended(&mut self.is_stopped, done)
     }
 
-    /// Hears an RPC that others share, as `hear` does: what is kept of it is shared, and nothing is copied.
+    /// Hears an RPC that others share, as `hear` does. What is kept from it is shared, and nothing is copied.
     ///
     /// # Errors
-    /// `Stopped` after the router was out of memory, and `NoMemory`.
+    /// `Stopped` after the router ran out of memory, and `NoMemory`.
     pub fn hear_shared<W: Words>(
         &mut self,
         from: PeerNo,
@@ -65,10 +65,10 @@ impl Router {
         ended(&mut self.is_stopped, done)
     }
 
-    /// Learns that a neighbour has closed its link. Where it is not up, this does nothing.
+    /// Notes that a neighbour has closed its link. If the neighbour is not up, this does nothing.
     ///
     /// # Errors
-    /// `Stopped` after the router was out of memory, and `NoMemory`.
+    /// `Stopped` after the router ran out of memory, and `NoMemory`.
     pub fn gone<W: Words>(
         &mut self,
         peer: PeerNo,
@@ -82,11 +82,10 @@ impl Router {
         self.lose(peer, Loss::Gone, now, words)
     }
 
-    /// Learns that a neighbour's bytes spell no RPC, or end within one. Where it is not up, this does
-    /// nothing.
+    /// Notes that a neighbour's bytes spell no RPC, or end within one. If the neighbour is not up, this does nothing.
     ///
     /// # Errors
-    /// `Stopped` after the router was out of memory, and `NoMemory`.
+    /// `Stopped` after the router ran out of memory, and `NoMemory`.
     pub fn fault<W: Words>(
         &mut self,
         peer: PeerNo,
@@ -100,7 +99,7 @@ impl Router {
         self.lose(peer, Loss::Fault, now, words)
     }
 
-    /// Loses a neighbour, where it is up.
+    /// Loses a neighbour, if it is up.
     fn lose<W: Words>(
         &mut self,
         peer: PeerNo,

@@ -1,4 +1,4 @@
-//! How a router has a heartbeat.
+//! How a router does a heartbeat.
 ghost use Rattle.std.specs.Prelude.{◌≡◌, ◌≤◌, IfOk, map, option_map};
 ghost use Rattle.gs_base.specs.declared.names.Millis.{Millis as MillisValue};
 ghost use Rattle.gs_rules.specs.declared.event.Event.TheVariants as events;
@@ -20,15 +20,15 @@ use gs_params::Words;
 use gs_rules::{BeatStep, Event};
 use std::alloc::AllocError;
 
-/// A fanout whose turn comes in a heartbeat.
+/// A fanout that a heartbeat has yet to treat.
 #[derive(Debug, Drop)]
 pub struct DueFanout {
     topic: Topic,
-    /// The router had not published on it for its time when the heartbeat began: a heartbeat takes no simulated time.
+    /// Whether the fanout's time had come when the heartbeat began. A heartbeat takes no simulated time.
     is_stale: bool,
 }
 
-/// Whether the time of a fanout has come, which is in milliseconds from when the router last published on its topic.
+/// Says whether the time of a fanout has come. It is counted in milliseconds since the router last published on the topic.
 fn is_stale(time: u64, now: Millis, published: Option<Millis>) -> bool
     ensures { result ≡ is_stale time now.0 (option_map (λ (at : MillisValue). at.0) published) }
 {
@@ -39,8 +39,8 @@ fn is_stale(time: u64, now: Millis, published: Option<Millis>) -> bool
 }
 
 impl State {
-    /// Has a heartbeat: ends promises, mends meshes and fanouts, gossips on each topic on which there is something, and ends
-    /// the heartbeat.
+    /// Does a heartbeat: ends promises, mends meshes and fanouts, gossips on each topic that has something to gossip, and
+    /// ends the heartbeat.
     pub fn heartbeat<W: Words>(&mut self, now: Millis, words: &mut W) -> Result<(), AllocError>
         requires ready { IsReady self.old }
         requires time { last_moment self.old.trace ≤ now.0 }
@@ -101,7 +101,7 @@ impl State {
         self.step(Event::Step(BeatStep::FanBeat(topic)), now, words)
     }
 
-    /// What becomes of each fanout at a moment, in the order of the bytes of topics.
+    /// Returns what becomes of each fanout at a moment, in the order of the bytes of topics.
     fn due_fanouts(&self, now: Millis) -> Result<Vec<DueFanout>, AllocError>
         requires { IsCurrent self.now }
         ensures { IfOk result (λ list. map event_of list.items
@@ -115,7 +115,7 @@ impl State {
         Ok(list)
     }
 
-    /// The topics that have a fanout, in the order of their bytes.
+    /// Returns the topics that have a fanout, in the order of their bytes.
     fn fanout_topics(&self) -> Result<Vec<Topic>, AllocError>
         requires { IsCurrent self.now }
         ensures { IfOk result (λ topics. topics.items ≡ fanout_topics self.now.trace) }
@@ -140,7 +140,7 @@ impl State {
             .is_some()
     }
 
-    /// What becomes of the fanout of a topic at a moment.
+    /// Returns what becomes of the fanout of a topic at a moment.
     fn due_fanout(&self, topic: &Topic, now: Millis) -> Result<DueFanout, AllocError>
         ensures { IfOk result (λ due. (L : Entries)
             → Agrees self.now.known.tables L
@@ -170,7 +170,7 @@ impl State {
         self.step(Event::Step(BeatStep::GossipBeat(topic)), now, words)
     }
 
-    /// The topics on which there is something to gossip, in the order of their bytes.
+    /// Returns the topics that have something to gossip, in the order of their bytes.
     fn gossip_topics(&self) -> Result<Vec<Topic>, AllocError>
         requires { IsCurrent self.now }
         ensures { IfOk result (λ topics. topics.items ≡ gossip_topics (peer_of self.now) self.now.trace) }
@@ -185,7 +185,7 @@ impl State {
         Ok(topics)
     }
 
-    /// Whether there is something to gossip on a topic, which is listed when its turn comes.
+    /// Says whether there is something to gossip on a topic. It is listed when the topic's turn comes.
     fn has_gossip(&self, topic: &Topic) -> bool
         requires { IsCurrent self.now }
         ensures { result ≡ is_some_list (gossip (peer_of self.now) self.now.trace topic.now) }

@@ -10,7 +10,7 @@ use gs_base::{PeerNo, Seq, Topic, clone_of};
 use std::alloc::AllocError;
 
 impl State {
-    /// The members of the meshes of the router's own topics, topics by their bytes, members by number.
+    /// Returns the members of the meshes of the router's own topics. Topics stand by their bytes, members by number.
     pub fn meshes(&self) -> Result<Seq<(Topic, PeerNo)>, AllocError>
         ensures { IfOk result (λ meshes. (L : Entries) → Agrees self.now.known.tables L → meshes ≡ meshes_of L) }
     {

@@ -9,7 +9,7 @@ use gs_base::{Millis, PeerNo, Seq};
 use std::alloc::AllocError;
 
 impl State {
-    /// The scores of all neighbours at a moment, by number.
+    /// Returns the scores of all neighbours at a moment, by number.
     pub fn scores(&self, now: Millis) -> Result<Seq<(PeerNo, i128)>, AllocError>
         ensures { IfOk result (λ scores. (L : Entries)
             → AgreesOnScores (peer_of self.now) self.now.known.tables.standings L

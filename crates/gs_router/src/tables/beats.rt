@@ -11,14 +11,14 @@ pub struct Beats {
 }
 
 impl Beats {
-    /// None began.
+    /// Returns a count at which no heartbeat began.
     pub fn new() -> Beats
         ensures { AgreesOnBeats result [] }
     {
         Beats { count: 0 }
     }
 
-    /// How many heartbeats began, with the one that is on its way.
+    /// Returns how many heartbeats began, including the one that is under way.
     pub fn count(&self) -> u64
         ensures { (L : Entries) → AgreesOnBeats self.now L → result ≡ heartbeats L }
     {

@@ -25,12 +25,12 @@ pub struct Budget {
 pub struct Budgets {
     /// What each has at first.
     full: Budget,
-    /// What is left to those that made an offer which counted.
+    /// What is left to the neighbours that made an offer which counted.
     left: IndexMap<PeerNo, Budget>,
 }
 
 impl Budgets {
-    /// No offer counted. It takes no memory.
+    /// Returns budgets against which no offer counted. It takes no memory.
     pub fn new(alloc: Global, full: Budget) -> Budgets
         ensures agrees { AgreesOnBudgets result [] }
         ensures full { result.full ≡ full }
@@ -41,7 +41,7 @@ impl Budgets {
         }
     }
 
-    /// What is left of a neighbour's budget.
+    /// Returns what is left of a neighbour's budget.
     pub fn of(&self, peer: PeerNo) -> Budget
         ensures { result ≡ budget_in self.now peer }
     {
@@ -79,11 +79,11 @@ impl Budgets {
         }
     }
 
-    /// Notes what an entry counts against budgets (offers that count, and identifiers that were asked for), and makes
-    /// them whole where it ends a heartbeat.
+    /// Notes what an entry counts against budgets: offers that count, and identifiers that were asked for. If the entry ends
+    /// a heartbeat, each budget is whole again.
     ///
     /// # Errors
-    /// `AllocError` where there was no memory; some of its marks may then have been noted.
+    /// `AllocError` if memory runs out. Some of the entry's marks may then have been noted.
     pub fn note(&mut self, entry: &StoredEntry) -> Result<(), AllocError>
         ensures agrees { OnOk result ((L : Entries)
             → AgreesOnBudgets self.old L
@@ -95,8 +95,7 @@ impl Budgets {
         Ok(())
     }
 
-    /// Notes that an event came: with the end of a heartbeat each neighbour has its whole budget again. It takes no
-    /// memory.
+    /// Notes that an event came. At the end of a heartbeat each neighbour has its whole budget again. It takes no memory.
     fn note_event(&mut self, event: &Event)
         ensures agrees { (e : EntryValue) (L : Entries)
             → e.event ≡ event.now

@@ -23,11 +23,12 @@ pub struct Messages {
 }
 
 impl Messages {
-    /// No message is kept. One will be kept for `len` heartbeats, gossiped for `gossip`, and sent at most `answers`
-    /// times to each neighbour that asks for it. A `len` of 0 means 1, as checked parameters say.
+    /// Returns a table without messages. A message will be kept for `len` heartbeats, gossiped for `gossip`, and sent at
+    /// most `answers` times to each neighbour that asks for it. A `len` of 0 counts as 1, the least that checked parameters
+    /// have.
     ///
     /// # Errors
-    /// `AllocError` where there was no memory.
+    /// `AllocError` if memory runs out.
     pub fn new(
         alloc: Global,
         len: usize,
@@ -43,8 +44,8 @@ impl Messages {
         Ok(Messages { alloc, cache })
     }
 
-    /// The message that is kept under an identifier and may go to a neighbour: none where none is kept, or the
-    /// neighbour got it as often as it may.
+    /// Returns the message that is kept under an identifier and may go to a neighbour. There is none if no message is kept,
+    /// or if the neighbour got it as often as it may.
     pub fn answer_for(&self, id: &MsgId, peer: PeerNo) -> Option<&SharedPart<Message>>
         ensures some { IfSome result (λ message. (L : Entries)
             → AgreesOnMessages self.now L
@@ -60,7 +61,7 @@ impl Messages {
         }
     }
 
-    /// Whether a message is kept under an identifier, for whichever neighbour is asked about.
+    /// Says whether a message is kept under an identifier. The answer is the same for every neighbour.
     pub fn is_kept(&self, id: &MsgId, peer: PeerNo) -> bool
         ensures { (L : Entries)
             → AgreesOnMessages self.now L
@@ -73,7 +74,7 @@ impl Messages {
         }
     }
 
-    /// How often a neighbour may still get a message.
+    /// Returns how often a neighbour may still get a message.
     pub fn left_for(&self, id: &MsgId, peer: PeerNo) -> u64
         ensures { (L : Entries)
             → AgreesOnMessages self.now L
@@ -82,10 +83,10 @@ impl Messages {
         self.cache.left_for(id, peer)
     }
 
-    /// The identifiers of what is gossiped on a topic, the oldest first.
+    /// Returns the identifiers of what is gossiped on a topic, the oldest first.
     ///
     /// # Errors
-    /// `AllocError` where there was no memory.
+    /// `AllocError` if memory runs out.
     pub fn gossip_ids(&self, topic: &Topic) -> Result<Seq<MsgId>, AllocError>
         ensures { IfOk result (λ ids. (p : Peer) (L : Entries)
             → AgreesOnMessages self.now L
@@ -97,7 +98,7 @@ impl Messages {
         Ok(ids)
     }
 
-    /// Whether anything is gossiped on a topic. It takes no memory.
+    /// Says whether anything is gossiped on a topic. It takes no memory.
     pub fn has_gossip(&self, topic: &Topic) -> bool
         ensures { (p : Peer) (L : Entries)
             → AgreesOnMessages self.now L
@@ -108,7 +109,7 @@ impl Messages {
         self.cache.has_gossip(topic)
     }
 
-    /// Notes that an event came: the end of a heartbeat makes all that is kept older. It takes no memory.
+    /// Notes that an event came. The end of a heartbeat makes all that is kept older. It takes no memory.
     fn note_event(&mut self, event: &Event)
         ensures agrees { (e : EntryValue) (L : Entries)
             → e.event ≡ event.now
@@ -163,11 +164,11 @@ impl Messages {
         }
     }
 
-    /// Notes an entry: the message that its event brings is kept (`Cached`), answers are counted (`Answered`), and the
-    /// end of a heartbeat makes all that is kept older.
+    /// Notes an entry. The message that its event brings is kept (`Cached`), and answers are counted (`Answered`). The end
+    /// of a heartbeat makes all that is kept older.
     ///
     /// # Errors
-    /// `AllocError` where there was no memory; some of its marks may then have been noted.
+    /// `AllocError` if memory runs out. Some of the entry's marks may then have been noted.
     pub fn note(&mut self, entry: &StoredEntry) -> Result<(), AllocError>
         ensures agrees { OnOk result ((L : Entries)
             → AgreesOnMessages self.old L
@@ -192,10 +193,10 @@ impl Messages {
     }
 }
 
-/// The message that an event brings: its payload is shared.
+/// Returns the message that an event brings. Its payload is shared.
 ///
 /// # Errors
-/// `AllocError` where there was no memory.
+/// `AllocError` if memory runs out.
 fn message_in(alloc: Global, event: &Event) -> Result<SharedPart<Message>, AllocError>
     ensures { IfOk result (λ message. message ≡ message_in event.now) }
 {

@@ -16,13 +16,13 @@ use std::alloc::{AllocError, Global};
 #[derive(Drop)]
 pub struct Listeners {
     alloc: Global,
-    /// Those who are on each topic that a neighbour ever spoke of: a set by number, so that a publication hashes its
-    /// topic once for all neighbours.
+    /// For each topic that a neighbour ever named, those who are on it. They are a set by number, so that a publication
+    /// hashes its topic once for all neighbours.
     topics: IndexMap<Topic, PeerSet>,
 }
 
 impl Listeners {
-    /// Nobody spoke of a topic.
+    /// Returns listeners before any neighbour named a topic.
     pub fn new(alloc: Global) -> Listeners
         ensures { AgreesOnListeners result [] }
     {
@@ -32,7 +32,7 @@ impl Listeners {
         }
     }
 
-    /// Those who are on a topic; `None` is nobody.
+    /// Returns those who are on a topic; `None` means nobody.
     pub fn of(&self, topic: &Topic) -> Option<&PeerSet>
         ensures some { IfSome result (λ set. (L : Entries) (q : PeerNoValue)
             → AgreesOnListeners self.now L
@@ -44,7 +44,7 @@ impl Listeners {
         self.topics.get(topic)
     }
 
-    /// Whether a neighbour is on a topic.
+    /// Says whether a neighbour is on a topic.
     pub fn is_on(&self, peer: PeerNo, topic: &Topic) -> bool
         ensures { (L : Entries) → AgreesOnListeners self.now L → result ≡ on L peer topic.now }
     {
@@ -54,10 +54,10 @@ impl Listeners {
         }
     }
 
-    /// Notes what a neighbour says of a topic (`Sub`): to say neither is to leave it.
+    /// Notes what a neighbour says about a topic (`Sub`). A change that does not say which counts as leaving the topic.
     ///
     /// # Errors
-    /// `AllocError` where there was no memory.
+    /// `AllocError` if memory runs out.
     pub fn note(&mut self, entry: &StoredEntry) -> Result<(), AllocError>
         ensures { OnOk result ((L : Entries)
             → AgreesOnListeners self.old L

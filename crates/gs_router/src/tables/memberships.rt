@@ -14,15 +14,15 @@ use gs_plan::Act;
 use gs_rules::{BeatStep, Event, StoredEntry};
 use std::alloc::{AllocError, Global};
 
-/// Who is in the mesh and in the fanout of each topic, when the router last published on it without being subscribed,
-/// and who is not to be grafted yet.
+/// Who is in the mesh and in the fanout of each topic. It also has when the router last published on a topic without being
+/// subscribed, and who may not be grafted yet.
 #[derive(Drop)]
 pub struct Memberships {
     meshes: Meshes,
 }
 
 impl Memberships {
-    /// Nobody is in any mesh or fanout.
+    /// Returns memberships in which nobody is in any mesh or fanout.
     pub fn new(alloc: Global) -> Memberships
         ensures { AgreesOnMeshes result [] }
     {
@@ -31,7 +31,7 @@ impl Memberships {
         }
     }
 
-    /// Who is in the mesh of a topic, ascending by number.
+    /// Returns who is in the mesh of a topic, ascending by number.
     pub fn members(&self, topic: &Topic) -> &[PeerNo]
         ensures value { (L : Entries) → AgreesOnMeshes self.now L → result.now ≡ mesh L topic.now }
         ensures ascending { IsAscending result.now }
@@ -39,14 +39,14 @@ impl Memberships {
         self.meshes.members(topic)
     }
 
-    /// Who is in the fanout of a topic, ascending by number.
+    /// Returns who is in the fanout of a topic, ascending by number.
     pub fn fanout(&self, topic: &Topic) -> &[PeerNo]
         ensures { (L : Entries) → AgreesOnMeshes self.now L → result.now ≡ fanout L topic.now }
     {
         self.meshes.fanout(topic)
     }
 
-    /// When the router last published on a topic without being subscribed, for as long as that keeps a fanout.
+    /// Returns when the router last published on a topic without being subscribed, for as long as that keeps a fanout.
     pub fn last_published(&self, topic: &Topic) -> Option<Millis>
         ensures { (L : Entries)
             → AgreesOnMeshes self.now L
@@ -55,31 +55,31 @@ impl Memberships {
         self.meshes.last_published(topic)
     }
 
-    /// Whether a neighbour is in the mesh of a topic.
+    /// Says whether a neighbour is in the mesh of a topic.
     pub fn is_member(&self, peer: PeerNo, topic: &Topic) -> bool
         ensures { (L : Entries) → AgreesOnMeshes self.now L → result ≡ is_among (mesh L topic.now) peer }
     {
         self.members(topic).contains(&peer)
     }
 
-    /// Whether a neighbour is in the fanout of a topic.
+    /// Says whether a neighbour is in the fanout of a topic.
     pub fn is_fanned(&self, peer: PeerNo, topic: &Topic) -> bool
         ensures { (L : Entries) → AgreesOnMeshes self.now L → result ≡ is_among (fanout L topic.now) peer }
     {
         self.fanout(topic).contains(&peer)
     }
 
-    /// Before which moment a neighbour is not to be in the mesh of a topic: 0 where it always may.
+    /// Returns the moment before which a neighbour may not be in the mesh of a topic. It is 0 if the neighbour always may.
     pub fn backoff_until(&self, peer: PeerNo, topic: &Topic) -> Millis
         ensures { (L : Entries) → AgreesOnMeshes self.now L → result.0 ≡ backoff L peer topic.now }
     {
         self.meshes.backoff_until(peer, topic)
     }
 
-    /// Notes who comes into a mesh or a fanout or leaves one, who is not to be grafted, and which fanout ends.
+    /// Notes who comes into a mesh or a fanout, who leaves one, who may not be grafted, and which fanout ends.
     ///
     /// # Errors
-    /// `AllocError` where there was no memory; some of its marks may then have been noted.
+    /// `AllocError` if memory runs out. Some of the entry's marks may then have been noted.
     pub fn note(&mut self, entry: &StoredEntry) -> Result<(), AllocError>
         ensures { OnOk result ((L : Entries) → AgreesOnMeshes self.old L → AgreesOnMeshes self.new (entry.now ∷ L)) }
     {
@@ -88,7 +88,8 @@ impl Memberships {
         Ok(())
     }
 
-    /// Notes that an event came: a subscription ends the fanout of its topic, and so does its time. It takes no memory.
+    /// Notes that an event came. A fanout ends with a subscription to its topic, and when its time has come. It takes no
+    /// memory.
     fn note_event(&mut self, event: &Event)
         ensures { (members fans : TopicValue → List PeerNoValue)
             (publishes : TopicValue → Option ℕ)

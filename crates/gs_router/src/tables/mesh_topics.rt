@@ -27,7 +27,7 @@ pub struct MeshTopics {
 }
 
 impl MeshTopics {
-    /// No topic has a mesh or a fanout.
+    /// Returns a table in which no topic has a mesh or a fanout.
     pub fn new(alloc: Global) -> MeshTopics
         ensures { AgreesOnMeshTopics result [] }
     {
@@ -36,10 +36,10 @@ impl MeshTopics {
         }
     }
 
-    /// The topics that have a mesh or a fanout, in the order of their bytes.
+    /// Returns the topics that have a mesh or a fanout, in the order of their bytes.
     ///
     /// # Errors
-    /// `AllocError` where there was no memory.
+    /// `AllocError` if memory runs out.
     pub fn list(&self, alloc: Global) -> Result<Vec<Topic>, AllocError>
         ensures { IfOk result (λ list. (L : Entries) → AgreesOnMeshTopics self.now L → list.items ≡ mesh_topics L) }
     {
@@ -52,10 +52,10 @@ impl MeshTopics {
         Ok(list)
     }
 
-    /// Notes which topic has a mesh or a fanout by an entry, or has one no more.
+    /// Notes which topic has a mesh or a fanout after an entry, or no longer has one.
     ///
     /// # Errors
-    /// `AllocError` where there was no memory; some of it may then have been noted.
+    /// `AllocError` if memory runs out. A part of the entry may then have been noted.
     pub fn note(&mut self, entry: &StoredEntry) -> Result<(), AllocError>
         ensures { OnOk result ((L : Entries)
             → AgreesOnMeshTopics self.old L

@@ -7,7 +7,7 @@ use gs_base::PeerNo;
 use gs_rules::{Event, StoredEntry};
 use std::alloc::{AllocError, Global};
 
-/// Which neighbours are heard and sent to: after `Shut` none.
+/// Which neighbours are heard and sent to. After `Shut` there are none.
 #[derive(Drop)]
 pub struct Neighbours {
     lost: PeerSet,
@@ -15,7 +15,7 @@ pub struct Neighbours {
 }
 
 impl Neighbours {
-    /// Each neighbour is heard and sent to.
+    /// Returns a table by which each neighbour is heard and sent to.
     pub fn new(alloc: Global) -> Neighbours
         ensures { AgreesOnNeighbours result [] }
     {
@@ -25,14 +25,14 @@ impl Neighbours {
         }
     }
 
-    /// Whether the router has shut down.
+    /// Says whether the router has shut down.
     pub fn is_shut(&self) -> bool
         ensures { (L : Entries) → AgreesOnNeighbours self.now L → result ≡ is_shut L }
     {
         self.is_shut
     }
 
-    /// Whether a neighbour is heard and sent to.
+    /// Says whether a neighbour is heard and sent to.
     pub fn is_up(&self, peer: PeerNo) -> bool
         ensures { (L : Entries) → AgreesOnNeighbours self.now L → result ≡ up L peer }
     {
@@ -42,7 +42,7 @@ impl Neighbours {
     /// Notes who is lost (`Event::lost`), and that the router shuts down (`Shut`).
     ///
     /// # Errors
-    /// `AllocError` where there was no memory.
+    /// `AllocError` if memory runs out.
     pub fn note(&mut self, entry: &StoredEntry) -> Result<(), AllocError>
         ensures { OnOk result ((L : Entries)
             → AgreesOnNeighbours self.old L

@@ -21,7 +21,7 @@ pub struct OwnTopics {
 }
 
 impl OwnTopics {
-    /// The router was subscribed to no topic.
+    /// Returns a table for a router that was never subscribed to a topic.
     pub fn new(alloc: Global) -> OwnTopics
         ensures { AgreesOnTopics result [] }
     {
@@ -30,7 +30,7 @@ impl OwnTopics {
         }
     }
 
-    /// Whether the router is subscribed to a topic.
+    /// Says whether the router is subscribed to a topic.
     pub fn is_joined(&self, topic: &Topic) -> bool
         ensures { (L : Entries) → AgreesOnTopics self.now L → result ≡ joined L topic.now }
     {
@@ -40,7 +40,7 @@ impl OwnTopics {
         }
     }
 
-    /// Whether the router is subscribed to the topic that is named; an absent one is the empty one.
+    /// Says whether the router is subscribed to the topic that is named. If no topic is named, it is the empty one.
     pub fn is_joined_or_empty(&self, topic: &Option<Topic>) -> bool
         ensures { (L : Entries) → AgreesOnTopics self.now L → result ≡ joined L (topic_or_empty topic.now) }
     {
@@ -50,17 +50,17 @@ impl OwnTopics {
         }
     }
 
-    /// Whether the router may be subscribed to a topic beside all that it ever was subscribed to.
+    /// Says whether there is room for a topic among all that the router was ever subscribed to.
     pub fn has_room_for(&self, topic: &Topic) -> bool
         ensures { (L : Entries) → AgreesOnTopics self.now L → result ≡ has_room_for L topic.now }
     {
         self.topics.get(topic).is_some() || self.topics.len() < MOST_TOPICS
     }
 
-    /// The topics that the router is subscribed to, in the order of their bytes.
+    /// Returns the topics that the router is subscribed to, in the order of their bytes.
     ///
     /// # Errors
-    /// `AllocError` where there was no memory.
+    /// `AllocError` if memory runs out.
     pub fn joined(&self, alloc: Global) -> Result<Vec<Topic>, AllocError>
         ensures { IfOk result (λ list. (L : Entries) → AgreesOnTopics self.now L → list.items ≡ own_topics L) }
     {
@@ -76,7 +76,7 @@ impl OwnTopics {
     /// Notes that the router subscribes to a topic or leaves it.
     ///
     /// # Errors
-    /// `AllocError` where there was no memory.
+    /// `AllocError` if memory runs out.
     pub fn note(&mut self, entry: &StoredEntry) -> Result<(), AllocError>
         ensures { OnOk result ((L : Entries) → AgreesOnTopics self.old L → AgreesOnTopics self.new (entry.now ∷ L)) }
     {

@@ -9,15 +9,15 @@ use gs_base::{Mark, Millis, MsgId};
 use gs_rules::{Event, Promise, StoredEntry};
 use std::alloc::{AllocError, Global};
 
-/// The promises whose messages did not come yet, the oldest first. There are few: no more than a neighbour's offers may
-/// count, for each heartbeat until a promise is overdue.
+/// The promises that still wait for their messages, the oldest first. They are few: at most one for each offer of a
+/// neighbour that may count, in each heartbeat until a promise is overdue.
 #[derive(Drop)]
 pub struct Promises {
     waiting: Vec<Promise>,
 }
 
 impl Promises {
-    /// Nothing was promised. It takes no memory.
+    /// Returns a table without promises. It takes no memory.
     pub fn new(alloc: Global) -> Promises
         ensures { AgreesOnPromises result [] }
     {
@@ -26,18 +26,18 @@ impl Promises {
         }
     }
 
-    /// What was promised and did not come yet.
+    /// Returns what was promised and has not come yet.
     pub fn waiting(&self) -> &[Promise]
         ensures { (L : Entries) → AgreesOnPromises self.now L → result.now ≡ promises L }
     {
         self.waiting.as_slice()
     }
 
-    /// Notes an entry: a heartbeat ends promises, then a message that is seen keeps those of it, and then one may be
-    /// made.
+    /// Notes an entry. A heartbeat ends promises, then a message that is seen fulfils the promises of it, and then the entry
+    /// may make one.
     ///
     /// # Errors
-    /// `AllocError` where there was no memory; what the entry ended or kept is then noted.
+    /// `AllocError` if memory runs out. What the entry ended or fulfilled is then noted.
     pub fn note(&mut self, entry: &StoredEntry) -> Result<(), AllocError>
         ensures { OnOk result ((L : Entries)
             → AgreesOnPromises self.old L
@@ -51,7 +51,7 @@ impl Promises {
         Ok(())
     }
 
-    /// Ends the promises whose time has come, where a heartbeat begins.
+    /// Ends the overdue promises, if a heartbeat begins.
     fn end(&mut self, event: &Event, at: Millis)
         ensures { self.new.waiting.items ≡ ended_after event.now at.0 self.old.waiting.items }
     {

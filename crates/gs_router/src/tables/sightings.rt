@@ -20,7 +20,7 @@ pub struct Sightings {
 }
 
 impl Sightings {
-    /// No message was seen. A sighting will count for less than a time.
+    /// Returns a table without sightings. A sighting will count for less than `ttl`.
     pub fn new(alloc: Global, ttl: Millis) -> Sightings
         ensures agrees { AgreesOnSightings result [] }
         ensures ttl { result.cache.ttl ≡ ttl.0 }
@@ -30,7 +30,7 @@ impl Sightings {
         }
     }
 
-    /// Whether a message was seen lately.
+    /// Says whether a message was seen lately.
     pub fn is_seen(&self, id: &MsgId, now: Millis) -> bool
         ensures { (L : Entries)
             → AgreesOnSightings self.now L
@@ -40,8 +40,8 @@ impl Sightings {
         self.cache.seen(id, now).is_some()
     }
 
-    /// The last sighting of a message, where it was seen lately. One look-up says what the message was found to be,
-    /// and whether it is near.
+    /// Returns the last sighting of a message, if it was seen lately. One look-up says what the message was found to be, and
+    /// whether it is near.
     pub fn lately(&self, id: &MsgId, now: Millis) -> Option<&Sighting>
         ensures counts { option_copied result ≡ what_counts self.now.cache id.now now.0 }
         ensures sees { (L : Entries)
@@ -52,7 +52,7 @@ impl Sightings {
         self.cache.counting(id, now)
     }
 
-    /// Whether a sighting that counts is at most `window` milliseconds old, and a neighbour was not noted for its
+    /// Says whether a sighting that counts is at most `window` milliseconds old, and a neighbour was not noted for its
     /// message since.
     pub fn is_near(&self, sighting: &Sighting, peer: PeerNo, now: Millis, window: Millis) -> bool
         ensures { (L : Entries) (id : MsgIdValue)
@@ -64,8 +64,8 @@ impl Sightings {
         sighting.is_near(peer, now, window)
     }
 
-    /// Notes an entry, which comes no earlier than those before it. Whichever order its marks have, neighbours are noted
-    /// for messages as they were seen with it.
+    /// Notes an entry, which comes no earlier than those before it. Sightings are noted first and neighbours after them,
+    /// whatever the order of the marks.
     pub fn note(&mut self, entry: &StoredEntry) -> Result<(), AllocError>
         requires { self.old.cache.moment ≤ entry.now.at.0 }
         ensures agrees { OnOk result ((L : Entries)

@@ -19,17 +19,17 @@ use gs_rules::{Event, StoredEntry};
 use gs_score::{ScoreParts, Scores, TopicParts};
 use std::alloc::{AllocError, Global};
 
-/// What counts of each neighbour, from which its score is made.
+/// What counts for and against each neighbour, which makes up its score.
 #[derive(Drop)]
 pub struct Standings {
     scores: Scores,
 }
 
 impl Standings {
-    /// Nothing happened yet.
+    /// Returns the standings before anything happened.
     ///
     /// # Errors
-    /// `AllocError` where there was no memory.
+    /// `AllocError` if memory runs out.
     pub fn new(
         alloc: Global,
         params: &Params,
@@ -47,14 +47,14 @@ impl Standings {
         Ok(Standings { scores })
     }
 
-    /// The score of a neighbour at a moment, in millionths.
+    /// Returns the score of a neighbour at a moment, in millionths.
     pub fn score(&self, peer: PeerNo, now: Millis) -> i128
         ensures { (p : Peer) (L : Entries) → AgreesOnScores p self.now L → result ≡ score p L now.0 peer }
     {
         self.scores.score(peer, now)
     }
 
-    /// The square of what is missing of a neighbour's deliveries in the mesh of a topic, in millionths (P3).
+    /// Returns the square of what is missing of a neighbour's deliveries in the mesh of a topic, in millionths (P3).
     pub fn missing(&self, peer: PeerNo, topic: &Topic, now: Millis) -> u64
         ensures { (p : Peer) (L : Entries)
             → AgreesOnScores p self.now L
@@ -63,7 +63,7 @@ impl Standings {
         self.scores.missing(peer, topic, now)
     }
 
-    /// The parts of a neighbour's score at a moment.
+    /// Returns the parts of a neighbour's score at a moment.
     pub fn score_parts(&self, peer: PeerNo, now: Millis) -> ScoreParts
         ensures { (p : Peer) (L : Entries)
             → AgreesOnScores p self.now L
@@ -72,7 +72,7 @@ impl Standings {
         self.scores.score_parts(peer, now)
     }
 
-    /// The parts of what a topic gives a neighbour at a moment.
+    /// Returns the parts of what a topic adds to a neighbour's score at a moment.
     pub fn topic_parts(&self, peer: PeerNo, topic: &Topic, now: Millis) -> TopicParts
         ensures { (p : Peer) (L : Entries)
             → AgreesOnScores p self.now L
@@ -81,10 +81,10 @@ impl Standings {
         self.scores.topic_parts(peer, topic, now)
     }
 
-    /// The topics on which anything is known of a neighbour, in the order of their bytes.
+    /// Returns the topics on which anything is known about a neighbour, in the order of their bytes.
     ///
     /// # Errors
-    /// `AllocError` where there was no memory.
+    /// `AllocError` if memory runs out.
     pub fn topics(&self, alloc: Global, peer: PeerNo) -> Result<Vec<Topic>, AllocError>
         ensures { IfOk result (λ list. (p : Peer) (L : Entries)
             → AgreesOnScores p self.now L
@@ -95,10 +95,11 @@ impl Standings {
         Ok(list)
     }
 
-    /// Notes what an entry says of neighbours: its marks raise counters, and its event lowers them or shuts one out.
+    /// Notes what an entry says about neighbours. Its marks raise counters, and its event lowers them or shuts a neighbour
+    /// out.
     ///
     /// # Errors
-    /// `AllocError` where there was no memory; some of its marks may then have been noted.
+    /// `AllocError` if memory runs out. Some of the entry's marks may then have been noted.
     pub fn note(&mut self, entry: &StoredEntry) -> Result<(), AllocError>
         requires few { self.old.scores.decays < 2 ^ 63 }
         ensures { OnOk result ((p : Peer) (L : Entries)
@@ -169,7 +170,7 @@ impl Standings {
         }
     }
 
-    /// Applies a mark that says nothing of meshes, if it counts.
+    /// Applies a mark that is not about meshes, if it counts.
     fn apply(&mut self, mark: &Mark) -> Result<(), AllocError>
         ensures { OnOk result ((p : Peer) (H : History)
             → Agrees (setting_of p) self.old.scores H

@@ -178,8 +178,8 @@ pub static OFFERS: &[Case<'static>] = &[
         ],
         ..NOTHING
     },
-    // Three times to each neighbour, also within one request, in which it has the order of the identifiers. A message that
-    // comes anew at 500 + 120,000 counts anew.
+    // A message is sent three times to each neighbour, also within one request. There the messages have the order of the
+    // identifiers. A message that comes again at 500 + 120,000 is counted from the start.
     Case {
         name: "a message is sent to who asks as often as it may, until it comes anew",
         steps: &[

@@ -1,4 +1,4 @@
-//! What a router tells of itself.
+//! What a router reports about itself.
 use gs_params::{DEFAULT_TIMING, Timing};
 use gs_router_testkit::Call::{Gone, Hear, HearEach, Heartbeat, Shut, Subscribe};
 use gs_router_testkit::CasePart::{Graft, Message, On};

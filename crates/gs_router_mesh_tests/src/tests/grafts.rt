@@ -43,8 +43,8 @@ const ON_3: Call<'static> = Hear(3, &[On("a")]);
 const ON_4: Call<'static> = Hear(4, &[On("a")]);
 
 pub static GRAFTS: &[Case<'static>] = &[
-    // Misbehaviour costs nothing. A GRAFT a millisecond before its backoff ends is charged and bars anew, for 60 seconds from
-    // then on, and one at its end is accepted.
+    // Misbehaviour costs nothing. A GRAFT a millisecond before its backoff ends is charged and starts a new backoff of 60
+    // seconds. A GRAFT at its end is accepted.
     Case {
         name: "a GRAFT in backoff is charged and bars anew",
         neighbours: 4,

@@ -156,8 +156,8 @@ pub static MENDS: &[Case<'static>] = &[
         ],
         ..NOTHING
     },
-    // Two deliveries should come of each member, and the square of what is missing counts: 4 from 5,000 milliseconds
-    // on. The router tells all who are put out before the one that comes in, whatever their numbers.
+    // Each member should deliver two messages, and the square of what is missing counts: 4 from 5,000 milliseconds on. The
+    // router tells all members that are put out before the one that comes in, whatever their numbers.
     Case {
         name: "who brings nothing is put out and charged",
         neighbours: 4,

@@ -110,7 +110,7 @@ pub static TRAFFIC: &[Case<'static>] = &[
         ],
         ..NOTHING
     },
-    // Without flood publishing a payload goes only to the mesh, but for a member that scores below the threshold: a
+    // Without flood publishing a payload goes only to the mesh, except to a member that scores below the threshold. A
     // rejected message costs it 60, and the threshold is -50. Neighbour 3 is on the topic, and outside the mesh.
     Case {
         name: "what is published goes to the mesh above the threshold",

@@ -32,7 +32,7 @@ const WITH_KEY: CasePart<'static> = Other(Fields {
 
 const ABC_ON_A: CasePart<'static> = Message("a", b"abc");
 
-/// The message comes, and nothing comes of it.
+/// The message comes, and has no effect.
 const COMES: &[Seen<'static>] = &[Seen::Heard(1, ABC_ON_A), Seen::Handled(1, ABC_ON_A)];
 
 /// It comes, and is delivered and kept.
@@ -226,7 +226,7 @@ pub static MESSAGES: &[Case<'static>] = &[
         ],
         ..NOTHING
     },
-    // What is marked as seen at 1,000 is seen up to 120,999, and what is marked anew at 121,000 up to 240,999.
+    // What is marked as seen at 1,000 is seen up to 120,999, and what is marked again at 121,000 is seen up to 240,999.
     Case {
         name: "a message is delivered again where it was first seen 120,000 milliseconds ago",
         events: true,

@@ -1,4 +1,4 @@
-//! What the applications of a scenario think of their peers' neighbours.
+//! The scores that the applications of a scenario give their peers' neighbours.
 ghost use Rattle.std.specs.Prelude.{◌≡◌, ◌≤◌, [], length, map};
 ghost use Rattle.std.specs.List.{list_any};
 ghost use Rattle.toml.specs.View.{view, items_view};
@@ -20,14 +20,14 @@ use toml::Value;
 
 const VALUE: &str = "value";
 
-/// The keys of a score's table.
+/// Returns the keys of a score's table.
 pub fn keys() -> &'static [&'static str]
     ensures { map (λ key. key.now) result.now ≡ app_keys }
 {
     &[PEER, ABOUT, VALUE]
 }
 
-/// The scores of a list, in its order.
+/// Returns the scores of a list, in its order.
 pub fn apps_in(
     alloc: Global,
     peers: &[PlannedPeer],
@@ -44,7 +44,7 @@ pub fn apps_in(
     )
 }
 
-/// The score that stands in the list after the earlier ones.
+/// Returns the score that stands in the list after the earlier ones.
 #[tactic(auto, unfolding(crate::specs::PlanOf::app_in))]
 fn app_in(
     alloc: Global,
@@ -75,7 +75,7 @@ fn app_in(
     Ok(app)
 }
 
-/// Whether an earlier score is of the same neighbour of the same peer.
+/// Says whether an earlier score is of the same peer for the same neighbour.
 fn is_repeated(earlier: &[App], app: &App) -> bool
     ensures { result ≡ list_any (are_of_the_same app.now) earlier.now }
 {

@@ -22,14 +22,14 @@ const FROM: &str = "from";
 
 const TO: &str = "to";
 
-/// The keys of a dial's table.
+/// Returns the keys of a dial's table.
 pub fn keys() -> &'static [&'static str]
     ensures { map (λ key. key.now) result.now ≡ dial_keys }
 {
     &[FROM, TO]
 }
 
-/// The dials of a list, in its order.
+/// Returns the dials of a list, in its order.
 pub fn dials_in(
     alloc: Global,
     peers: &[PlannedPeer],
@@ -45,7 +45,7 @@ pub fn dials_in(
     )
 }
 
-/// The dial that stands in the list after the earlier ones.
+/// Returns the dial that stands in the list after the earlier ones.
 #[tactic(auto, unfolding(crate::specs::PlanOf::dial_in))]
 fn dial_in(
     alloc: Global,
@@ -75,7 +75,7 @@ fn dial_in(
     Ok(dial)
 }
 
-/// Whether an earlier dial joins the same peers.
+/// Says whether an earlier dial joins the same peers.
 fn is_repeated(earlier: &[Dial], dial: &Dial) -> bool
     ensures { result ≡ are_joined earlier.now dial.now.from dial.now.to }
 {

@@ -12,7 +12,7 @@ use gs_base::Seq;
 use std::alloc::Global;
 use toml::Value;
 
-/// The elements of a list in their order, each read with those before it.
+/// Returns the elements of a list in their order. Each is read with the elements before it.
 #[tactic(auto, unfolding(crate::specs::Keys::read_each))]
 pub fn read_each<T, F>(alloc: Global, list: &[Value], read: F) -> Result<Seq<T>, ScenarioFault>
 where

@@ -18,14 +18,14 @@ use gs_plan::{Dial, Explicit, MOST_PEERS, PlannedPeer};
 use std::alloc::Global;
 use toml::Value;
 
-/// The keys of an agreement's table.
+/// Returns the keys of an agreement's table.
 pub fn keys() -> &'static [&'static str]
     ensures { map (λ key. key.now) result.now ≡ explicit_keys }
 {
     &[PEER, ABOUT]
 }
 
-/// The agreements of a list, in its order.
+/// Returns the agreements of a list, in its order.
 pub fn agreements_in(
     alloc: Global,
     peers: &[PlannedPeer],
@@ -42,7 +42,7 @@ pub fn agreements_in(
     )
 }
 
-/// The agreement that stands in the list after the earlier ones.
+/// Returns the agreement that stands in the list after the earlier ones.
 #[tactic(auto, unfolding(crate::specs::PlanOf::agreement_in))]
 fn agreement_in(
     alloc: Global,
@@ -71,7 +71,7 @@ fn agreement_in(
     Ok(agreement)
 }
 
-/// Whether an earlier agreement is of the same peer with the same neighbour.
+/// Says whether an earlier agreement is of the same peer with the same neighbour.
 fn is_repeated(earlier: &[Explicit], agreement: &Explicit) -> bool
     ensures { result ≡ list_any (are_one_pair agreement.now) earlier.now }
 {

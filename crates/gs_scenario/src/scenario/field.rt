@@ -1,4 +1,4 @@
-//! A value at its place, read as what it must be.
+//! A value at its place, and how it is read as a value of some kind.
 ghost use Rattle.std.specs.Prelude.{◌≡◌, ◌≤◌, IfOk, length, option_map, option_and_then};
 ghost use Rattle.std.specs.List.{list_all};
 ghost use Rattle.toml.specs.Data.{as_integer, as_str, as_array};
@@ -21,17 +21,17 @@ use toml::{Table, Value};
 /// A value of a scenario, and where it stands.
 #[derive(Clone, Copy)]
 pub struct Field<'a> {
-    /// Where the memory of what is read, or of the refusal, comes from.
+    /// The allocator of what is read, and of the refusal.
     pub alloc: Global,
     pub place: Place<'a>,
     pub value: &'a Value,
 }
 
 impl<'a> Field<'a> {
-    /// The refusal of this value, in whose place another is wanted.
+    /// Returns the refusal of this value, which is not the wanted one.
     ///
     /// # Errors
-    /// `AllocError` where there was no memory for it.
+    /// `AllocError` when out of memory.
     pub fn out_of_range(&self, wanted: Wanted) -> Result<ScenarioFault, AllocError>
         ensures { IfOk result (λ fault. fault
             ≡ kinds.out_of_range (place_text self.now.place) (view self.now.value.now) wanted) }
@@ -41,10 +41,10 @@ impl<'a> Field<'a> {
         Ok(ScenarioFault::Range(place, found, wanted))
     }
 
-    /// The refusal of a name, which nothing of a kind has.
+    /// Returns the refusal of a name that nothing of this kind has.
     ///
     /// # Errors
-    /// `AllocError` where there was no memory for it.
+    /// `AllocError` when out of memory.
     pub fn unknown(&self, name: &str, kind: NameKind) -> Result<ScenarioFault, AllocError>
         ensures { IfOk result (λ fault. fault ≡ UnknownName (place_text self.now.place) name.now kind) }
     {
@@ -53,17 +53,17 @@ impl<'a> Field<'a> {
         Ok(ScenarioFault::UnknownName(place, name, kind))
     }
 
-    /// The refusal of a name that stands for the second time.
+    /// Returns the refusal of a name that stands for the second time.
     ///
     /// # Errors
-    /// `AllocError` where there was no memory for it.
+    /// `AllocError` when out of memory.
     pub fn repeated(&self) -> Result<ScenarioFault, AllocError>
         ensures { IfOk result (λ fault. fault ≡ Repeated (place_text self.now.place)) }
     {
         Ok(ScenarioFault::Repeated(self.place.to_text(self.alloc)?))
     }
 
-    /// A whole number from low to high.
+    /// Returns a whole number from low to high.
     pub fn whole_number(&self, low: u64, high: u64) -> Result<u64, ScenarioFault>
         ensures number { GivesSame result (read_as (kinds.whole_number low high) self.now) }
         ensures within { IfOk result (λ number. (low ≤ number) × (number ≤ high)) }
@@ -79,7 +79,7 @@ impl<'a> Field<'a> {
         Err(self.out_of_range(Wanted::Number(low, high))?)
     }
 
-    /// A whole number of either sign, from low to high.
+    /// Returns a whole number of either sign, from low to high.
     pub fn signed_number(&self, low: i64, high: i64) -> Result<i64, ScenarioFault>
         ensures { GivesSame result (read_as (kinds.signed_number low high) self.now) }
     {
@@ -91,7 +91,7 @@ impl<'a> Field<'a> {
         Err(self.out_of_range(Wanted::SignedNumber(low, high))?)
     }
 
-    /// A whole number from low to high that is a multiple of a step.
+    /// Returns a whole number from low to high that is a multiple of a step.
     pub fn multiple(&self, low: u64, high: u64, step: u64) -> Result<u64, ScenarioFault>
         requires { 1 ≤ step }
         ensures { GivesSame result
@@ -105,7 +105,7 @@ impl<'a> Field<'a> {
         }
     }
 
-    /// True or false.
+    /// Returns true or false.
     pub fn truth_value(&self) -> Result<bool, ScenarioFault>
         ensures { GivesSame result (read_as kinds.truth_value self.now) }
     {
@@ -115,7 +115,7 @@ impl<'a> Field<'a> {
         }
     }
 
-    /// A table, whose keys are looked at later.
+    /// Returns a table. Its keys are read later.
     pub fn table(&self) -> Result<&'a Table, ScenarioFault>
         ensures { Gives (λ table. table_view table.now) result
             (read_as kinds.any_table self.now) }
@@ -126,7 +126,7 @@ impl<'a> Field<'a> {
         }
     }
 
-    /// A list of low to high elements.
+    /// Returns a list of low to high elements.
     #[tactic(auto, using(crate::proofs::Lists::item_count_view))]
     pub fn list(&self, low: usize, high: usize) -> Result<&'a [Value], ScenarioFault>
         ensures list { Gives (λ list. items_view list.now) result
@@ -141,7 +141,7 @@ impl<'a> Field<'a> {
         Err(self.out_of_range(Wanted::Elements(low, high))?)
     }
 
-    /// A list of any length, whose elements are looked at later.
+    /// Returns a list of any length. Its elements are read later.
     pub fn any_list(&self) -> Result<&'a [Value], ScenarioFault>
         ensures { Gives (λ list. items_view list.now) result (read_as kinds.any_list self.now) }
     {
@@ -151,7 +151,7 @@ impl<'a> Field<'a> {
         }
     }
 
-    /// Any text, the empty one too.
+    /// Returns any text, even an empty one.
     pub fn text(&self) -> Result<&'a str, ScenarioFault>
         ensures { Gives (λ text. text.now) result (read_as kinds.any_text self.now) }
     {
@@ -161,7 +161,7 @@ impl<'a> Field<'a> {
         }
     }
 
-    /// A name: 1 to 32 of `a` to `z`, `0` to `9`, `_` and `-`.
+    /// Returns a name: 1 to 32 of `a` to `z`, `0` to `9`, `_` and `-`.
     pub fn name(&self) -> Result<&'a str, ScenarioFault>
         ensures { Gives (λ text. text.now) result (read_as kinds.name_text self.now) }
     {
@@ -173,7 +173,7 @@ impl<'a> Field<'a> {
         Err(self.out_of_range(Wanted::Name)?)
     }
 
-    /// The bytes of a text of hex digits, in either case and even in number.
+    /// Returns the bytes of a text with an even number of hex digits, in either case.
     pub fn hex(&self) -> Result<Bytes, ScenarioFault>
         ensures { GivesSame result (read_as kinds.hex_text self.now) }
     {
@@ -187,7 +187,7 @@ impl<'a> Field<'a> {
         Err(self.out_of_range(Wanted::Hex)?)
     }
 
-    /// The bytes of such a text, at most `most` of them.
+    /// Returns the bytes of a text of hex digits, at most `most` bytes.
     pub fn short_hex(&self, most: usize) -> Result<Bytes, ScenarioFault>
         ensures { GivesSame result (read_as (kinds.short_hex most) self.now) }
     {
@@ -198,7 +198,7 @@ impl<'a> Field<'a> {
         Ok(bytes)
     }
 
-    /// The bytes of each hex text of a list.
+    /// Returns the bytes of each hex text of a list.
     #[tactic(auto, unfolding(crate::specs::Keys::read_each))]
     pub fn prefixes(&self) -> Result<Seq<Bytes>, ScenarioFault>
         ensures { GivesSame result (read_as (kinds.list_of_each kinds.hex_text) self.now) }
@@ -213,7 +213,7 @@ impl<'a> Field<'a> {
         Ok(prefixes)
     }
 
-    /// The words of 32 bits of a list.
+    /// Returns the 32-bit words of a list.
     #[tactic(auto, unfolding(crate::specs::Keys::read_each))]
     pub fn words(&self) -> Result<Seq<u32>, ScenarioFault>
         ensures { GivesSame result (read_as kinds.words self.now) }
@@ -229,7 +229,7 @@ impl<'a> Field<'a> {
     }
 }
 
-/// The table that an element of a list is.
+/// Returns an element of a list as a table at its place.
 pub fn table_of<'a>(
     alloc: Global,
     element: Element<'a>,

@@ -1,4 +1,4 @@
-//! A peer, and a neighbour of it, that a table speaks of.
+//! The peer that a table names, and a neighbour of it.
 ghost use Rattle.std.specs.Prelude.{◌≤◌, length};
 ghost use Rattle.gs_scenario.specs.Refusal.{GivesSame};
 ghost use Rattle.gs_scenario.specs.PlanOf.{pair_in};
@@ -16,7 +16,7 @@ pub const PEER: &str = "peer";
 /// The key of its neighbour.
 pub const ABOUT: &str = "about";
 
-/// The peer of a table, and its neighbour.
+/// Returns the peer that a table names, and its neighbour.
 #[tactic(auto, unfolding(crate::specs::PlanOf::pair_in))]
 pub fn pair_in(
     peers: &[PlannedPeer],

@@ -29,8 +29,8 @@ pub struct Shared {
     pub flood_publish: bool,
 }
 
-/// The parameters of the table at `params`, which may be missing. The heartbeat and the decay take
-/// whole rounds of `round_ms`.
+/// Returns the parameters of the table at `params`, which may be missing. The heartbeat and the decay must take whole rounds
+/// of `round_ms`.
 pub fn shared_of(
     alloc: Global,
     table: Option<&Table>,
@@ -50,7 +50,7 @@ pub fn shared_of(
     }
 }
 
-/// The keys of the table.
+/// Returns the keys of the table of parameters.
 pub fn keys() -> &'static [&'static str]
     ensures { map (λ key. key.now) result.now ≡ shared_names }
 {
@@ -184,7 +184,7 @@ fn timing_in(section: &Section<'_>, round_ms: u64) -> Result<Timing, ScenarioFau
     })
 }
 
-/// All parameters, if they pass their checks.
+/// Returns all parameters, if they pass their checks.
 #[tactic(auto, unfolding(crate::specs::ParamsOf::params_of))]
 pub fn params_of(shared: Shared, topics: Seq<(Topic, TopicParams)>) -> Result<Params, ScenarioFault>
     ensures { GivesSame result (params_of shared topics) }

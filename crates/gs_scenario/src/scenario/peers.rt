@@ -26,14 +26,14 @@ const ADDRESS: &str = "address";
 
 const WORDS: &str = "words";
 
-/// The keys of a peer's table.
+/// Returns the keys of a peer's table.
 pub fn keys() -> &'static [&'static str]
     ensures { map (λ key. key.now) result.now ≡ peer_keys }
 {
     &[NAME, ADDRESS, WORDS]
 }
 
-/// The peers of a list, in its order.
+/// Returns the peers of a list, in its order.
 pub fn peers_in(alloc: Global, list: &[Value]) -> Result<Seq<PlannedPeer>, ScenarioFault>
     ensures read { GivesSame result (read_each peer_in [] (items_view list.now)) }
     ensures count { IfOk result (λ peers. length peers ≡ length list.now) }
@@ -41,7 +41,7 @@ pub fn peers_in(alloc: Global, list: &[Value]) -> Result<Seq<PlannedPeer>, Scena
     read_each(alloc, list, |earlier, value| peer_in(alloc, earlier, value))
 }
 
-/// The peer that stands in the list after the earlier ones.
+/// Returns the peer that stands in the list after the earlier ones.
 #[tactic(auto, unfolding(crate::specs::PlanOf::peer_in))]
 fn peer_in(
     alloc: Global,
@@ -70,7 +70,7 @@ fn peer_in(
     })
 }
 
-/// The number of the peer that a value names.
+/// Returns the number of the peer that a value names.
 pub fn peer_of(peers: &[PlannedPeer], field: &Field<'_>) -> Result<PeerNo, ScenarioFault>
     requires { length peers.now ≤ MOST_PEERS }
     ensures { GivesSame result (read_as (reference names.Peer (peer_named peers.now)) field.now) }
@@ -82,7 +82,7 @@ pub fn peer_of(peers: &[PlannedPeer], field: &Field<'_>) -> Result<PeerNo, Scena
     }
 }
 
-/// The neighbour of a peer that a value names.
+/// Returns the neighbour of a peer that a value names.
 pub fn neighbour_of(
     peers: &[PlannedPeer],
     dials: &[Dial],

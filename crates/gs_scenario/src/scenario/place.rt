@@ -6,15 +6,14 @@ use gs_base::Text;
 use std::alloc::{AllocError, Global};
 use std::fmt;
 
-/// An element of one of the top table's lists, counted from 0, as `peer[1]`.
+/// An element of one of the top table's lists, counted from 0, such as `peer[1]`.
 #[derive(Clone, Copy)]
 pub struct Element<'a> {
     pub list: &'a str,
     pub index: usize,
 }
 
-/// The table that a key stands in, as what the key's place begins with: `params.`, `peer[1].` or
-/// nothing.
+/// The table in which a key stands, as the front of the key's place: `params.`, `peer[1].` or nothing.
 #[derive(Clone, Copy)]
 pub enum Path<'a> {
     /// The top table.
@@ -25,7 +24,7 @@ pub enum Path<'a> {
     Within(Element<'a>),
 }
 
-/// Where a value stands, as `seed`, `peer[1]` or `peer[1].name`.
+/// Where a value stands, such as `seed`, `peer[1]` or `peer[1].name`.
 #[derive(Clone, Copy)]
 pub enum Place<'a> {
     /// At a key of a table.
@@ -66,10 +65,10 @@ impl<'a> fmt::Display for Place<'a> {
 }
 
 impl<'a> Place<'a> {
-    /// The place as a refusal names it.
+    /// Returns the place as a refusal names it.
     ///
     /// # Errors
-    /// `AllocError` where there was no memory for it.
+    /// `AllocError` when out of memory.
     pub fn to_text(&self, alloc: Global) -> Result<Text, AllocError>
         ensures { IfOk result (λ text. text ≡ place_text self.now) }
     {

@@ -36,13 +36,13 @@ const TO: &str = "to";
 
 const HEX: &str = "hex";
 
-/// What the lines of a script may speak of.
+/// What the lines of a script may refer to.
 #[derive(Clone, Copy)]
 pub struct Known<'a> {
     pub topics: &'a [TopicEntry],
     pub peers: &'a [PlannedPeer],
     pub dials: &'a [Dial],
-    /// The last round.
+    /// The number of the last round.
     pub rounds: u64,
 }
 
@@ -69,42 +69,42 @@ impl Verb {
     }
 }
 
-/// The keys of a line that asks a peer to subscribe or to unsubscribe.
+/// Returns the keys of a line that tells a peer to subscribe or to unsubscribe.
 pub fn subscription_keys() -> &'static [&'static str]
     ensures { map (λ key. key.now) result.now ≡ known_keys kinds.SubscriptionLine }
 {
     &[WHAT, AT, PEER, TOPIC]
 }
 
-/// The keys of a line that asks a peer to publish.
+/// Returns the keys of a line that tells a peer to publish.
 pub fn publish_keys() -> &'static [&'static str]
     ensures { map (λ key. key.now) result.now ≡ known_keys kinds.PublishLine }
 {
     &[WHAT, AT, PEER, TOPIC, HEX]
 }
 
-/// The keys of a line that asks a peer to put bytes on a link as they are.
+/// Returns the keys of a line that tells a peer to put bytes on a link unchanged.
 pub fn raw_keys() -> &'static [&'static str]
     ensures { map (λ key. key.now) result.now ≡ known_keys kinds.RawLine }
 {
     &[WHAT, AT, PEER, TO, HEX]
 }
 
-/// The keys of a line that asks a peer to close a link.
+/// Returns the keys of a line that tells a peer to close a link.
 pub fn hang_up_keys() -> &'static [&'static str]
     ensures { map (λ key. key.now) result.now ≡ known_keys kinds.HangUpLine }
 {
     &[WHAT, AT, PEER, TO]
 }
 
-/// The lines of a list, in its order.
+/// Returns the lines of a list, in its order.
 #[tactic(auto, unfolding(crate::specs::Keys::read_each))]
 pub fn lines_in(alloc: Global, known: Known<'_>, list: &[Value]) -> Result<Seq<Line>, ScenarioFault>
     requires { length known.peers.now ≤ MOST_PEERS }
     ensures { let known = known.entry in GivesSame result (read_each
         (line_in known.topics.now known.peers.now known.dials.now known.rounds) [] (items_view list.now)) }
 {
-    // Not by `read_each`: the prover takes no closure that holds three references.
+    // This does not use `read_each`: the prover takes no closure that holds three references.
     let mut lines = Seq::new(alloc);
     for value in list {
         let line = line_in(alloc, known, lines.as_slice(), value)?;
@@ -113,7 +113,7 @@ pub fn lines_in(alloc: Global, known: Known<'_>, list: &[Value]) -> Result<Seq<L
     Ok(lines)
 }
 
-/// The line that stands in the list after the earlier ones.
+/// Returns the line that stands in the list after the earlier ones.
 #[tactic(auto, unfolding(crate::specs::PlanOf::line_in))]
 fn line_in(
     alloc: Global,
@@ -137,7 +137,7 @@ fn line_in(
     Ok(Line { at, peer, what })
 }
 
-/// What a line with a word asks of a peer.
+/// Returns what a line with this word tells a peer to do.
 #[tactic(auto, unfolding(crate::specs::PlanOf::what_in))]
 fn what_in(
     known: Known<'_>,
@@ -164,14 +164,14 @@ fn what_in(
     }
 }
 
-/// The topic that a line names.
+/// Returns the topic that a line names.
 fn topic_in(known: Known<'_>, section: &Section<'_>) -> Result<Topic, ScenarioFault>
     ensures { GivesSame result (held_at (topic_key known.entry.topics.now) section.now) }
 {
     topic_of(known.topics, &section.required(TOPIC)?)
 }
 
-/// The neighbour of a peer that a line names.
+/// Returns the neighbour of a peer that a line names.
 fn neighbour_in(
     known: Known<'_>,
     section: &Section<'_>,
@@ -184,7 +184,7 @@ fn neighbour_in(
     neighbour_of(known.peers, known.dials, peer, &section.required(TO)?)
 }
 
-/// What a line asks of a peer. The line has no key but those that such a line may have.
+/// Returns what a line tells a peer to do. Such a line must have no other keys than its own.
 #[tactic(auto, unfolding(crate::specs::PlanOf::verb_in))]
 fn verb_in(section: &Section<'_>) -> Result<Verb, ScenarioFault>
     ensures { GivesSame result (verb_in (section_of section.now)) }

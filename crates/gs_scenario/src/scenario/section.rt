@@ -1,4 +1,4 @@
-//! A table of a scenario, and what it holds at its keys.
+//! A table of a scenario, and how its keys are read.
 ghost use Rattle.std.specs.Prelude.{◌≡◌, [], ◌++◌, ◌≤◌, IfOk, IfSome, length, option_map, unwrap_or, map};
 ghost use Rattle.toml.specs.Data.{get_member, no_items, no_members};
 ghost use Rattle.toml.specs.View.{view, items_view, table_view};
@@ -20,7 +20,7 @@ use gs_base::Seq;
 use std::alloc::Global;
 use toml::{Table, Value};
 
-/// The highest number that a parameter may be given. The lowest is as far below 0.
+/// The highest number that a parameter may have. The lowest is its negative.
 const HIGHEST_NUMBER: u64 = 1_000_000_000_000;
 
 /// The highest number where either sign is allowed.
@@ -29,7 +29,7 @@ const HIGHEST_SCORE: i64 = HIGHEST_NUMBER as i64;
 /// A table of a scenario, and where it stands.
 #[derive(Clone, Copy)]
 pub struct Section<'a> {
-    /// Where the memory of what is read, or of a refusal, comes from.
+    /// The allocator of what is read, and of a refusal.
     pub alloc: Global,
     pub path: Path<'a>,
     pub table: &'a Table,
@@ -51,7 +51,7 @@ impl<'a> Section<'a> {
         Ok(())
     }
 
-    /// What the table holds at a key.
+    /// Returns what the table holds at a key.
     fn get(&self, key: &str) -> Option<&'a Value>
         ensures { option_map (λ value. view value.now) result
             ≡ get_member key.now (section_of self.now).members }
@@ -59,7 +59,7 @@ impl<'a> Section<'a> {
         self.table.get(key)
     }
 
-    /// What the table holds at a key that is required.
+    /// Returns what the table holds at a required key.
     pub fn required(&self, key: &'a str) -> Result<Field<'a>, ScenarioFault>
         ensures place { IfOk result (λ field.
             place_text field.place ≡ path_text self.now.path ++ key.now) }
@@ -78,7 +78,7 @@ impl<'a> Section<'a> {
         }
     }
 
-    /// What the table holds at a key that may be missing.
+    /// Returns what the table holds at a key that may be missing.
     pub fn optional(&self, key: &'a str) -> Option<Field<'a>>
         ensures place { IfSome result (λ field.
             place_text field.place ≡ path_text self.now.path ++ key.now) }
@@ -93,7 +93,7 @@ impl<'a> Section<'a> {
         })
     }
 
-    /// The whole number from low to high at a key that is required.
+    /// Returns the whole number from low to high at a required key.
     pub fn number(&self, key: &'a str, low: u64, high: u64) -> Result<u64, ScenarioFault>
         ensures number { GivesSame result
             (held_at (required key.now (kinds.whole_number low high)) self.now) }
@@ -102,7 +102,7 @@ impl<'a> Section<'a> {
         self.required(key)?.whole_number(low, high)
     }
 
-    /// The whole number of either sign from low to high at a key that is required.
+    /// Returns the whole number of either sign from low to high at a required key.
     pub fn signed_number(&self, key: &'a str, low: i64, high: i64) -> Result<i64, ScenarioFault>
         ensures { GivesSame result
             (held_at (required key.now (kinds.signed_number low high)) self.now) }
@@ -110,7 +110,7 @@ impl<'a> Section<'a> {
         self.required(key)?.signed_number(low, high)
     }
 
-    /// The count at a key, and the default where the key is missing.
+    /// Returns the count at a key, and the default where the key is missing.
     pub fn count(&self, key: &'a str, default: u64) -> Result<u64, ScenarioFault>
         ensures { GivesSame result (held_at (count_key key.now default) self.now) }
     {
@@ -118,7 +118,7 @@ impl<'a> Section<'a> {
             .map_or(Ok(default), |field| field.whole_number(0, HIGHEST_NUMBER))
     }
 
-    /// The count at a key, and the default where the key is missing, if it is a multiple of a step.
+    /// Returns the count at a key, and the default where the key is missing. Either must be a multiple of a step.
     pub fn multiple(&self, key: &'a str, default: u64, step: u64) -> Result<u64, ScenarioFault>
         requires { 1 ≤ step }
         ensures { GivesSame result (held_at (multiple_key step key.now default) self.now) }
@@ -134,7 +134,7 @@ impl<'a> Section<'a> {
         Err(ScenarioFault::Range(place, found, Wanted::Multiple(step)))
     }
 
-    /// The weight of what counts for a neighbour at a key, and the default where the key is missing.
+    /// Returns the weight of a reward at a key, and the default where the key is missing.
     pub fn reward(&self, key: &'a str, default: i64) -> Result<i64, ScenarioFault>
         ensures { GivesSame result (held_at (reward_key key.now default) self.now) }
     {
@@ -142,7 +142,7 @@ impl<'a> Section<'a> {
             .map_or(Ok(default), |field| field.signed_number(0, HIGHEST_SCORE))
     }
 
-    /// The millionths of either sign at a key, and the default where the key is missing.
+    /// Returns the millionths of either sign at a key, and the default where the key is missing.
     pub fn score(&self, key: &'a str, default: i64) -> Result<i64, ScenarioFault>
         ensures { GivesSame result (held_at (score_key key.now default) self.now) }
     {
@@ -152,7 +152,7 @@ impl<'a> Section<'a> {
         )
     }
 
-    /// The truth value at a key, and the default where the key is missing.
+    /// Returns the truth value at a key, and the default where the key is missing.
     pub fn truth_value(&self, key: &'a str, default: bool) -> Result<bool, ScenarioFault>
         ensures { GivesSame result (held_at (optional key.now kinds.truth_value default) self.now) }
     {
@@ -160,7 +160,7 @@ impl<'a> Section<'a> {
             .map_or(Ok(default), |field| field.truth_value())
     }
 
-    /// The bytes of each hex text of the list at a key, none where the key is missing.
+    /// Returns the bytes of each hex text of the list at a key, and none where the key is missing.
     pub fn prefixes(&self, key: &'a str) -> Result<Seq<Bytes>, ScenarioFault>
         ensures { GivesSame result (held_at (prefixes_key key.now) self.now) }
     {
@@ -168,7 +168,7 @@ impl<'a> Section<'a> {
             .map_or(Ok(Seq::new(self.alloc)), |field| field.prefixes())
     }
 
-    /// The words of 32 bits of the list at a key, none where the key is missing.
+    /// Returns the 32-bit words of the list at a key, and none where the key is missing.
     pub fn words(&self, key: &'a str) -> Result<Seq<u32>, ScenarioFault>
         ensures { GivesSame result (held_at (optional key.now kinds.words []) self.now) }
     {
@@ -176,7 +176,7 @@ impl<'a> Section<'a> {
             .map_or(Ok(Seq::new(self.alloc)), |field| field.words())
     }
 
-    /// The text at a key, and the default where the key is missing.
+    /// Returns the text at a key, and the default where the key is missing.
     pub fn text(&self, key: &'a str, default: &'a str) -> Result<&'a str, ScenarioFault>
         ensures { Gives (λ text. text.now) result
             (held_at (optional key.now kinds.any_text default.now) self.now) }
@@ -184,7 +184,7 @@ impl<'a> Section<'a> {
         self.optional(key).map_or(Ok(default), |field| field.text())
     }
 
-    /// The table at a key that may be missing.
+    /// Returns the table at a key that may be missing.
     pub fn table(&self, key: &'a str) -> Result<Option<&'a Table>, ScenarioFault>
         ensures { Gives (λ table. unwrap_or (option_map (λ found. table_view found.now) table) no_members)
             result (held_at (optional key.now kinds.any_table no_members) self.now) }
@@ -192,7 +192,7 @@ impl<'a> Section<'a> {
         self.optional(key).map(|field| field.table()).transpose()
     }
 
-    /// The list of low to high elements at a key that is required.
+    /// Returns the list of low to high elements at a required key.
     pub fn list(&self, key: &'a str, low: usize, high: usize) -> Result<&'a [Value], ScenarioFault>
         ensures list { Gives (λ list. items_view list.now) result
             (held_at (required key.now (kinds.list_of low high)) self.now) }
@@ -201,7 +201,7 @@ impl<'a> Section<'a> {
         self.required(key)?.list(low, high)
     }
 
-    /// The list at a key, empty where the key is missing.
+    /// Returns the list at a key, and an empty list where the key is missing.
     pub fn optional_list(&self, key: &'a str) -> Result<&'a [Value], ScenarioFault>
         ensures { Gives (λ list. items_view list.now) result
             (held_at (optional key.now kinds.any_list no_items) self.now) }
@@ -209,14 +209,14 @@ impl<'a> Section<'a> {
         self.optional(key).map_or(Ok(&[]), |field| field.any_list())
     }
 
-    /// The bytes of the hex text at a key that is required.
+    /// Returns the bytes of the hex text at a required key.
     pub fn hex(&self, key: &'a str) -> Result<Bytes, ScenarioFault>
         ensures { GivesSame result (held_at (required key.now kinds.hex_text) self.now) }
     {
         self.required(key)?.hex()
     }
 
-    /// The bytes of the hex text at a key that is required, at most `most` of them.
+    /// Returns the bytes of the hex text at a required key, at most `most` bytes.
     pub fn short_hex(&self, key: &'a str, most: usize) -> Result<Bytes, ScenarioFault>
         ensures { GivesSame result (held_at (required key.now (kinds.short_hex most)) self.now) }
     {

@@ -3,7 +3,7 @@ ghost use Rattle.gs_scenario.specs.PlanOf.{known_keys};
 
 use crate::scenario::{apps, dials, explicit, params, peers, script, top, topics};
 
-/// The tables of a scenario, by the keys that they may have.
+/// The kinds of tables in a scenario. Each kind has its own keys.
 #[derive(Clone, Copy, Debug, PartialEq, Eq)]
 pub enum TableKind {
     /// The top table.
@@ -20,18 +20,18 @@ pub enum TableKind {
     App,
     /// An element of `explicit`.
     Explicit,
-    /// An element of `do` that asks a peer to subscribe or to unsubscribe.
+    /// An element of `do` that tells a peer to subscribe or to unsubscribe.
     SubscriptionLine,
-    /// An element of `do` that asks a peer to publish.
+    /// An element of `do` that tells a peer to publish.
     PublishLine,
-    /// An element of `do` that asks a peer to put bytes on a link as they are.
+    /// An element of `do` that tells a peer to put bytes on a link unchanged.
     RawLine,
-    /// An element of `do` that asks a peer to close a link.
+    /// An element of `do` that tells a peer to close a link.
     HangUpLine,
 }
 
 impl TableKind {
-    /// The keys that such a table may have, in the order in which they are looked at.
+    /// Returns the keys that such a table may have, in the order in which they are read.
     pub fn known_keys(self) -> &'static [&'static str]
         ensures { map (λ key. key.now) result.now ≡ known_keys self }
     {

@@ -34,7 +34,7 @@ const EXPLICIT: &str = "explicit";
 
 const DO: &str = "do";
 
-/// The keys of the top table.
+/// Returns the keys of the top table.
 pub fn keys() -> &'static [&'static str]
     ensures { map (λ key. key.now) result.now ≡ spec.top_keys }
 {
@@ -43,7 +43,7 @@ pub fn keys() -> &'static [&'static str]
     ]
 }
 
-/// What the top table holds. The table in it and its lists are walked later.
+/// What the top table holds. The table and the lists in it are read later.
 #[derive(Clone, Copy)]
 pub struct Top<'a> {
     pub round_ms: u64,
@@ -61,7 +61,7 @@ pub struct Top<'a> {
 }
 
 impl<'a> Top<'a> {
-    /// Reads the keys in their order.
+    /// Returns what the top table holds, with its keys read in their order.
     #[tactic(auto, unfolding(crate::specs::PlanOf::top_in, crate::specs::Keys::only))]
     pub fn read(top: Section<'a>) -> Result<Top<'a>, ScenarioFault>
         ensures plan { Gives top_view result (spec.top_in (section_of top.entry)) }

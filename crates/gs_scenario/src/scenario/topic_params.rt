@@ -20,7 +20,7 @@ pub struct TopicWeights {
     pub w4: i64,
 }
 
-/// What a decay leaves of a topic's counters, and their caps and threshold.
+/// How a topic's counters decay, with their caps and threshold.
 #[derive(Clone, Copy)]
 pub struct TopicCounters {
     pub p2_decay: u64,
@@ -33,7 +33,7 @@ pub struct TopicCounters {
     pub p3_threshold: u64,
 }
 
-/// The parameters in the table of a topic.
+/// Returns the parameters in the table of a topic.
 #[tactic(auto, unfolding(crate::specs::TopicParamsOf::topic_params_in))]
 pub fn topic_params_in(section: &Section<'_>) -> Result<TopicParams, ScenarioFault>
     ensures { GivesSame result (topic_params_in (section_of section.now)) }
@@ -55,8 +55,7 @@ fn topic_factors_in(section: &Section<'_>) -> Result<TopicFactors, ScenarioFault
     Ok(factors_of(weights, counters))
 }
 
-/// The factors of a topic. They are read in two parts, because the prover takes no literal of all
-/// fourteen calls.
+/// Returns the factors of a topic. They are read in two parts, because the prover takes no literal with all fourteen calls.
 fn factors_of(weights: TopicWeights, counters: TopicCounters) -> TopicFactors
     ensures { result ≡ factors_of weights counters }
 {

@@ -22,10 +22,10 @@ use gs_params::TopicParams;
 use std::alloc::Global;
 use toml::Value;
 
-/// A topic, which lines and look-ups name, with its parameters.
+/// A topic with its parameters. Lines and look-ups name it.
 pub type TopicEntry = (Topic, TopicParams);
 
-/// The keys of a topic's table.
+/// Returns the keys of a topic's table.
 pub fn keys() -> &'static [&'static str]
     ensures { map (λ key. key.now) result.now ≡ topic_keys }
 {
@@ -53,7 +53,7 @@ pub fn keys() -> &'static [&'static str]
     ]
 }
 
-/// The topics of a list, in its order.
+/// Returns the topics of a list, in its order.
 pub fn topics_in(alloc: Global, list: &[Value]) -> Result<Seq<TopicEntry>, ScenarioFault>
     ensures { GivesSame result (read_each topic_in [] (items_view list.now)) }
 {
@@ -64,7 +64,7 @@ pub fn topics_in(alloc: Global, list: &[Value]) -> Result<Seq<TopicEntry>, Scena
     )
 }
 
-/// The topic that stands in the list after the earlier ones.
+/// Returns the topic that stands in the list after the earlier ones.
 #[tactic(auto, unfolding(crate::specs::PlanOf::topic_in))]
 fn topic_in(
     alloc: Global,
@@ -89,7 +89,7 @@ fn topic_in(
     Ok((topic, params))
 }
 
-/// The topic that a value names.
+/// Returns the topic that a value names.
 pub fn topic_of(topics: &[TopicEntry], field: &Field<'_>) -> Result<Topic, ScenarioFault>
     ensures { GivesSame result
         (read_as (reference names.Topic (topic_named topics.now)) field.now) }

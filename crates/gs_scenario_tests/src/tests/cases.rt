@@ -1,6 +1,6 @@
 //! Scenarios, and what each of them gives.
 
-/// A text of a scenario, what stands in its place, and what that gives.
+/// A text of a scenario, the text instead of it, and what that gives.
 pub type Case = (&'static str, &'static str, &'static str);
 
 /// Two peers and a message from one to the other.
@@ -44,7 +44,7 @@ topic = \"news\"
 hex = \"616263\"
 ";
 
-/// The lists of that scenario, which others stand in the place of.
+/// The lists of that scenario. Tests put other lists there instead.
 const LISTS: &str = "\
 [[topic]]
 name = \"news\"
@@ -264,7 +264,7 @@ pub static EDITS: [Case; 70] = [
     ("hex = \"616263\"", "hex = \"\"", "a plan"),
 ];
 
-/// What other lists in place of the topics and peers of that scenario give.
+/// What other lists give instead of the topics and peers of that scenario.
 pub static OTHER_LISTS: [Case; 12] = [
     (LISTS, "peer = [1]\n", "28 topic"),
     (LISTS, "topic = [1]\n", "28 peer"),

@@ -4,14 +4,14 @@ use gs_base::{PeerNo, Topic, clone_of};
 use gs_plan::{Act, Dial, Line, are_joined, limits_of_plans};
 use std::alloc::{AllocError, Global};
 
-/// What takes nothing and gives nothing: that it can be called is all there is to test.
+/// A function that takes nothing and gives nothing, so the test only calls it.
 #[test]
 fn the_limits_of_plans_can_be_called(_rt: HostRuntime) {
     limits_of_plans();
 }
 
-/// A dial from 0 to 1 and one from 2 to 1 join 0 and 1, and 1 and 2, whichever comes first; 0 and 2
-/// are not joined, and no peer is joined with itself.
+/// A dial from 0 to 1 and one from 2 to 1 join 0 and 1, and 1 and 2, whichever comes first. Peers 0 and 2 are not joined,
+/// and no peer is joined with itself.
 #[test]
 fn a_dial_joins_both_sides(rt: HostRuntime) {
     let dials = [
@@ -49,7 +49,7 @@ fn news(alloc: Global) -> Result<Topic, AllocError> {
     Ok(Topic(Bytes::copy_from_slice(alloc, b"news")?))
 }
 
-/// A clone of a line equals it, whatever it tells.
+/// A clone of a line equals it, whatever the line tells a peer to do.
 #[test]
 fn a_line_equals_its_clone(rt: HostRuntime) -> Result<(), AllocError> {
     let alloc = rt.alloc();

@@ -1,6 +1,6 @@
 //! The keys of parameters, topics, peers and scores, and what their values give.
 
-/// A scenario that says something in each of its tables.
+/// A scenario that has something in each of its tables.
 pub const TABLES: &str = "\
 round_ms = 100
 rounds = 10

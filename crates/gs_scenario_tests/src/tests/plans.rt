@@ -1,7 +1,7 @@
 //! Scenarios and their plans, as they are printed.
 use crate::tests::cases::TWO_PEERS;
 
-/// A scenario that says as little as it may.
+/// A scenario with as few keys as possible.
 const LEAST: &str = "\
 round_ms = 100
 rounds = 1
@@ -16,7 +16,7 @@ name = \"news\"
 name = \"a\"
 ";
 
-/// A scenario with each key that there is.
+/// A scenario with all keys.
 const EACH_KEY: &str = "\
 round_ms = 250
 rounds = 20
@@ -152,7 +152,7 @@ what = \"hang_up\"
 to = \"a\"
 ";
 
-/// The parameters of a topic where nothing is said of them.
+/// The parameters of a topic whose table gives none.
 pub const DEFAULT_TOPIC: &str = "TopicParams { \
 factors: TopicFactors { topic_weight: 1000000, w1: 0, w2: 0, w3: 0, w3b: 0, w4: 0, \
 p2_decay: 500000, p3_decay: 500000, p3b_decay: 500000, p4_decay: 500000, \
@@ -160,7 +160,7 @@ p1_cap: 100000000, p2_cap: 100000000, p3_cap: 100000000, p3_threshold: 0 }, \
 timing: TopicTiming { p1_quantum_ms: 1000, p3_window_ms: 10, p3_activation_ms: 5000 }, \
 reject: Seq { items: [] }, ignore: Seq { items: [] } }";
 
-/// All other parameters where nothing is said of them.
+/// All other parameters of a scenario whose table gives none.
 pub const DEFAULT_PARAMS: &str = "\
 degrees: Degrees { d: 6, d_low: 4, d_high: 12, d_score: 4, d_out: 2, d_lazy: 6 }, \
 thresholds: Thresholds { gossip_threshold: -10000000, publish_threshold: -50000000, \
@@ -172,7 +172,7 @@ seen_ttl_ms: 120000, iwant_followup_ms: 3000, prune_backoff_s: 60, unsubscribe_b
 mcache_len: 5, mcache_gossip: 3, opportunistic_ticks: 60, opportunistic_peers: 2, \
 max_ihave: 10, max_ihave_ids: 5000, gossip_retransmission: 3 }, flood_publish: true";
 
-/// Scenarios and their plans, where `DEFAULT_PARAMS` and `DEFAULT_TOPIC` stand for those.
+/// Scenarios and their plans. `DEFAULT_PARAMS` and `DEFAULT_TOPIC` stand in them for those texts.
 pub static PLANS: [(&str, &str); 3] = [
     (
         TWO_PEERS,

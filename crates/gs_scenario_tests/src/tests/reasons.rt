@@ -196,7 +196,7 @@ pub static REASONS: [(&str, &str, &str); 53] = [
         "value = 5\n[[explicit]]\npeer = 'a'\nabout = 'a'\n",
         "UnknownName(Text { text: \"explicit[0].about\" }, Text { text: \"a\" }, Neighbour)",
     ),
-    // What stands for the second time.
+    // What repeats an earlier value.
     (
         "value = 5\n",
         "value = 5\n[[app]]\npeer = 'a'\nabout = 'b'\nvalue = 6\n",
@@ -276,7 +276,7 @@ pub static REASONS: [(&str, &str, &str); 53] = [
     ),
 ];
 
-/// The keys that a table may have, in the order in which they are looked at.
+/// The keys that a table may have, in the order in which they are read.
 pub static KNOWN_KEYS: [(TableKind, &str); 11] = [
     (
         TableKind::Top,

@@ -157,7 +157,7 @@ fn an_address_is_any_text(rt: HostRuntime) -> Result<(), AllocError> {
     Ok(())
 }
 
-/// The address of the second peer with a line more in its table, or the refusal.
+/// Returns the address of the second peer where its table has one more line, or the refusal.
 fn second_address(alloc: Global, line: &str) -> Result<String, AllocError> {
     let text = with_line(alloc, IN_PEER, line)?;
     match read_plan(alloc, text.as_str()) {

@@ -1,4 +1,4 @@
-//! What is kept of counters and of misbehaviour, beside what is read of them.
+//! What is stored for counters and misbehaviour, and what is read from them.
 ghost use Rattle.std.specs.Prelude.{◌≡◌, ◌-◌};
 ghost use Rattle.gs_score.specs.Accounts.{misbehaviour_decay, rules_of};
 ghost use Rattle.gs_score.specs.Counters.{decayed};

@@ -132,7 +132,7 @@ static CASES: [Case; 16] = [
         scores: [-8_100_000, SECOND, THIRD],
         ..NOTHING
     },
-    // One that went for good does not count at its address.
+    // A neighbour that was shut out does not count at its address.
     Case {
         calls: &[Call::ShutOut(3)],
         scores: [0, 0, -100_000_000],

@@ -208,7 +208,7 @@ const THIRD: ScoreParts = ScoreParts {
     score: -17_000_000,
 };
 
-/// Of the first after the third went for good: two at an address are one too many, -5 * 1 * 1.
+/// Of the first, after the third was shut out: two at an address are one too many, -5 * 1 * 1.
 const FIRST_OF_TWO: ScoreParts = ScoreParts {
     neighbours_at_address: 2,
     ip_colocation_factor: -5_000_000,

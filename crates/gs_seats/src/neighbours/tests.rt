@@ -1,4 +1,4 @@
-//! Who is whose neighbour in a plan, and what is given of each.
+//! The neighbours of peers in a plan, and what each peer is given about them.
 ghost use Rattle.std.specs.Prelude.{◌≤◌, IfOk, length};
 ghost use Rattle.gs_plan.specs.declared.plan.TheConstants.{MOST_PEERS as most};
 
@@ -15,8 +15,8 @@ fn peer(alloc: Global, name: &str, address: &str) -> Result<PlannedPeer, AllocEr
     })
 }
 
-/// Peer 0 dials 1 and is dialled by 2; 0 and 1 are at one address, and think of each other; 0 has a peering agreement
-/// with 2, which has none with 0.
+/// Peer 0 dials 1 and is dialled by 2. Peers 0 and 1 have one address, and their applications score each other. Peer 0 has a
+/// peering agreement with 2, which has none with 0.
 fn plan(alloc: Global) -> Result<Plan, AllocError>
     ensures { IfOk result (λ plan. length plan.peers ≤ most) }
 {
@@ -62,7 +62,7 @@ fn plan(alloc: Global) -> Result<Plan, AllocError>
 /// What is expected of a neighbour: its number, whether it was dialled, its address, its score and whether it is explicit.
 type Expected<'a> = (u16, bool, &'a str, i128, bool);
 
-/// Whether a peer of the plan has just these neighbours.
+/// Says whether a peer of the plan has exactly these neighbours.
 fn has_neighbours(
     alloc: Global,
     number: u16,

@@ -4,7 +4,7 @@ use super::*;
 static SCENARIO: &str = "round_ms = 1\nrounds = 1\nworkers = 1\ncapacity = 1\nseed = 0\n\
     topic = [{name = \"t\"}]\npeer = [{name = \"p\"}]\n";
 
-/// The number of peers in the plan of bytes, or the number of their refusal.
+/// The number of peers in the plan that bytes describe, or the number of their refusal.
 fn peers_in(alloc: Global, bytes: &[u8]) -> Result<usize, u8> {
     if bytes.len() > LONGEST_INPUT {
         return Err(0);

@@ -1,4 +1,4 @@
-//! Each event of a trace, and the members that tell it.
+//! Each event of a trace, and the members that describe it.
 ghost use Rattle.std.specs.Prelude.{◌<◌, length, IfOk};
 ghost use Rattle.gs_base.specs.Rpcs.{grafts_in, offers_in, prunes_in, requests_in};
 
@@ -267,7 +267,7 @@ fn fallen_at(happens: Happens) -> &'static str {
     }
 }
 
-/// Whether each of these events is told so.
+/// Whether each of these events has its members.
 fn are_told(alloc: Global, cases: &[(Happens, &str)]) -> Result<bool, AllocError> {
     for (happens, told) in cases {
         if !is_event(alloc, event(alloc, *happens)?, told, fallen_at(*happens))? {

@@ -1,4 +1,4 @@
-//! What came to nothing at an entry, worked out by hand from the rules: the traces are made up, and only their last entry is
+//! What came to nothing at an entry, worked out by hand from the rules. The traces are made up, and only their last entry is
 //! looked at.
 ghost use Rattle.std.specs.Prelude.{◌<◌, length, IfOk};
 ghost use Rattle.gs_base.specs.Rpcs.{grafts_in, requests_in};
@@ -20,7 +20,7 @@ enum Happens {
     Grafted(u16),
     /// `b` is barred up to this moment.
     Barred(u64),
-    /// A message is kept, and `b` gets it as often.
+    /// A message is kept, and `b` gets it this often.
     Answered(u8),
     /// `b` promises a message up to this moment.
     Promised(u64),
@@ -249,7 +249,7 @@ static GRAFTS: [Case; 8] = [
     },
 ];
 
-/// A message is sent three times to one that asks. A promise is broken at its moment, where its neighbour is up.
+/// A message is sent three times to a neighbour that asks. A promise is broken at its moment, where its neighbour is up.
 static OTHERS: [Case; 9] = [
     Case {
         scenario: PLAIN,
@@ -306,7 +306,7 @@ static OTHERS: [Case; 9] = [
     },
 ];
 
-/// Whether each of these cases is told so.
+/// Whether the text of each of these cases is right.
 fn are_told(alloc: Global, cases: &[Case]) -> Result<bool, AllocError> {
     for case in cases {
         if !is_told(alloc, case)? {

@@ -1,4 +1,4 @@
-//! Each mark of an entry, and the object that tells it.
+//! Each mark of an entry, and the object that describes it.
 use crate::tests::are_marks;
 use crate::tests::plan::{bytes, topic};
 use gs_base::{Mark, Millis, MsgId, PeerNo, Seq, Topic, Verdict};
@@ -27,7 +27,7 @@ enum Notes {
 
 const ID: MsgId = MsgId([0x5a; 32]);
 
-/// A topic with bytes that stand in a text only by their numbers, and with some that stand as they are.
+/// A topic with bytes that a text gives only by their numbers, and with bytes that it gives unchanged.
 fn odd(alloc: Global) -> Result<Topic, AllocError> {
     Ok(Topic(bytes(alloc, b"\"\\\x1f ~\x7f\xff/")?))
 }
@@ -134,7 +134,7 @@ fn marks_of(alloc: Global, all: &[Notes]) -> Result<Seq<Mark>, AllocError> {
     Ok(marks)
 }
 
-/// Whether each of these lists of marks is told so.
+/// Whether each of these lists of marks has its objects.
 fn are_told(alloc: Global, cases: &[(&[Notes], &str)]) -> Result<bool, AllocError> {
     for (notes, told) in cases {
         if !are_marks(alloc, marks_of(alloc, notes)?, told)? {

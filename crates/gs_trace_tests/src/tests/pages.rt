@@ -9,7 +9,7 @@ use gs_streams::fakes::Narrow;
 use gs_trace::{TraceFault, all_lines, write_trace};
 use std::alloc::{AllocError, Global};
 
-/// How often the counters of peer `a` decay. The lines of that take 168,000 bytes.
+/// How often the counters of peer `a` decay. The lines for this take 168,000 bytes.
 const STEPS: usize = 1_500;
 
 const LINE: &[u8] = b"{\"round\":0,\"at\":7,\"peer\":\"a\",\"event\":\"decay\",\

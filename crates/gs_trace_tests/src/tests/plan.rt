@@ -1,4 +1,4 @@
-//! The plans whose runs are told.
+//! The plans of the runs.
 ghost use Rattle.std.specs.Prelude.{IfOk};
 ghost use Rattle.gs_plan.specs.Plans.{IsInRange};
 

@@ -62,7 +62,7 @@ fn report_of(alloc: Global, lives: &[Life]) -> Result<Report, AllocError> {
     Ok(report)
 }
 
-/// Peer `b` stands first. It refuses a line at a moment that no round begins at, and one after the last round.
+/// Peer `b` is first. It refuses a line at a moment at which no round begins, and one after the last round.
 static TWO_LIVES: [Life; 2] = [
     Life {
         peer: 1,
@@ -176,7 +176,7 @@ static WISHES: [(Wanted<'static>, &[usize]); 8] = [
     ),
 ];
 
-/// Whether what is wanted of a run are the lines at these places.
+/// Whether the lines of a run that are wanted are those at these places.
 fn are_told(alloc: Global, wanted: &Wanted<'_>, places: &[usize]) -> Result<bool, AllocError> {
     let report = report_of(alloc, &TWO_LIVES)?;
     let told = text_of(alloc, &plan(alloc)?, &report, wanted)?;
@@ -191,7 +191,7 @@ fn lines_that_are_wanted_come_by_round_then_by_peer(rt: HostRuntime) -> Result<(
     Ok(())
 }
 
-/// Whether all lines are told where nothing is wished for.
+/// Whether all lines are written if no option asks for certain lines.
 fn are_all_told(alloc: Global) -> Result<bool, AllocError> {
     let report = report_of(alloc, &TWO_LIVES)?;
     let told = text_of(alloc, &plan(alloc)?, &report, &all_lines())?;
@@ -204,7 +204,7 @@ fn without_a_wish_all_lines_are_told(rt: HostRuntime) -> Result<(), AllocError> 
     Ok(())
 }
 
-/// The laws stand in contracts: that they can be called is all there is to test.
+/// The laws are in contracts. A test can only call them.
 #[test]
 fn laws_of_traces_hold(_rt: HostRuntime) {
     a_trace_tells_all();

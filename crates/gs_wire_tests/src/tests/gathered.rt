@@ -59,7 +59,7 @@ pub static GATHERED: [(&[&[u8]], &[u8]); 9] = [
     ),
 ];
 
-/// Whether the RPC is gathered. Nothing where there was no memory, or where it is too long by itself.
+/// Says whether the RPC is gathered. It returns nothing when out of memory, or where the RPC is too long by itself.
 fn gather(alloc: Global, gathered: &mut Gathered, rpc: Rpc) -> Option<bool> {
     let rpc = Shared::new(alloc, rpc).ok()?;
     let written = WrittenRpc::new(alloc, &rpc).ok()?;

@@ -6,13 +6,13 @@ use gs_base::{Control, Graft, Message, Rpc, Seq, Shared, SubOpt};
 use gs_wire::{GatheredRpcs, decode, encode_frame};
 use std::alloc::{AllocError, Global};
 
-/// Whether the RPC is gathered. Nothing where there was no memory.
+/// Says whether the RPC is gathered, or returns nothing when out of memory.
 fn gather(alloc: Global, gathered: &mut GatheredRpcs, rpc: Rpc) -> Option<bool> {
     let rpc = Shared::new(alloc, rpc).ok()?;
     gathered.gather(&rpc).ok()
 }
 
-/// Gathers the RPCs with these bodies in turn. False at the first that does not fit.
+/// Gathers the RPCs with these bodies, one after the other. It returns false at the first that does not fit.
 fn gather_all(alloc: Global, gathered: &mut GatheredRpcs, bodies: &[&[u8]]) -> Option<bool> {
     for body in bodies {
         let rpc = decode(alloc, body).ok()?;
@@ -48,7 +48,7 @@ fn gathered_rpcs_are_taken_as_one(rt: HostRuntime) {
     }
 }
 
-/// What is said on `news` by ANNOUNCEMENT, MESSAGE and GRAFT: a subscription, the message `abc`, and a GRAFT.
+/// Returns what ANNOUNCEMENT, MESSAGE and GRAFT say on `news`: a subscription, the message `abc`, and a GRAFT.
 fn said_on_news(alloc: Global) -> Result<Rpc, AllocError> {
     let mut rpc = Rpc::empty(alloc);
     rpc.subs.push(SubOpt {
@@ -93,7 +93,7 @@ fn the_values_are_joined(rt: HostRuntime) -> Result<(), AllocError> {
     Ok(())
 }
 
-/// Whether a single one is taken as it was.
+/// Says whether a single RPC is taken as it was.
 fn is_taken_as_it_is(alloc: Global, rpc: Rpc) -> Option<bool> {
     let rpc = Shared::new(alloc, rpc).ok()?;
     let mut gathered = GatheredRpcs::new(alloc);
@@ -132,7 +132,7 @@ fn what_is_taken_is_gathered_no_more(rt: HostRuntime) {
     assert_eq!(rt; emptiness(rt.alloc()), Some((true, false, true)));
 }
 
-/// Gathers messages with payloads of these lengths in turn. False at the first that does not fit.
+/// Gathers messages with payloads of these lengths, one after the other. It returns false at the first that does not fit.
 fn gather_published(alloc: Global, gathered: &mut GatheredRpcs, lens: &[usize]) -> Option<bool> {
     for len in lens {
         let rpc = published(alloc, *len)?;

@@ -59,7 +59,7 @@ static BODIES: [(&[u8], &[u8], &[u8]); 10] = [
     ),
 ];
 
-/// Joins the RPC of the second body to that of the first. Gives the answer, and the body of the first then.
+/// Joins the RPC of the second body to that of the first. It returns the answer, and the body of the first after that.
 fn joined(alloc: Global, first: &[u8], second: &[u8]) -> Result<(bool, Vec<u8>), WireFault> {
     let mut rpc = decode(alloc, first)?;
     let more = decode(alloc, second)?;

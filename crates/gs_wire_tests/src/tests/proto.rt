@@ -1,6 +1,6 @@
-//! Each message of `rpc.proto` (libp2p pubsub, "The RPC"; gossipsub v1.0 and v1.1, "Control messages")
-//! with each of its fields, as a frame that was written by hand from that definition: the numbers of
-//! the fields are those of peers of any make.
+//! Each message of `rpc.proto` (libp2p pubsub, "The RPC"; gossipsub v1.0 and v1.1, "Control messages") with each of its
+//! fields. The frames were written by hand from that definition. So the numbers of the fields are those that peers of any
+//! implementation use.
 use bytes::Bytes;
 use gs_base::{Control, Message, Rpc, Seq, Shared, SubOpt, Topic};
 use gs_wire::{decode, encode_frame};
@@ -68,7 +68,7 @@ static FRAMES: [(Found, &[u8], &[u8]); 8] = [
         b"\x1e\x1a\x1c\x22\x1a\x0a\x04news\x12\x09\x0a\x02P1\x12\x03REC\x12\x04\x0a\x02P2\x18\xac\x02",
         b"\x0d\x1a\x0b\x22\x09\x0a\x04news\x18\xac\x02",
     ),
-    // control 3: { prune 4 } with peers that are no message, which are not looked into
+    // control 3: { prune 4 } with peers that are no messages, which are skipped
     (
         Found::Prune,
         b"\x11\x1a\x0f\x22\x0d\x0a\x04news\x12\x02\xff\xff\x18\xac\x02",

@@ -56,7 +56,7 @@ fn publication(alloc: Global, payload: &[u8]) -> Result<Rpc, AllocError> {
     })
 }
 
-/// Whether two of the frame in a row, in pieces of this many bytes, are the RPC twice.
+/// Says whether two such frames in a row, fed in pieces of this many bytes, are the RPC twice.
 fn is_fed(alloc: Global, frame: &[u8], rpc: &Rpc, piece: usize) -> Result<bool, AllocError> {
     let mut stream = Vec::from_slice(alloc, frame)?;
     stream.extend_from_slice(frame)?;

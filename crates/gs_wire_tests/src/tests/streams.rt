@@ -54,7 +54,7 @@ fn read_stream(
     })
 }
 
-/// Whether the stream has these frames and this first refusal, whole and byte by byte.
+/// Says whether the stream has these frames and this first refusal, both as a whole and byte by byte.
 fn has(
     alloc: Global,
     stream: &[u8],
@@ -120,7 +120,7 @@ fn a_fault_ends_a_stream(rt: HostRuntime) -> Result<(), AllocError> {
     Ok(())
 }
 
-/// A body of the limit is read, one of a byte more is not.
+/// A body as long as the limit is read, and one that is a byte longer is not.
 #[test]
 fn a_reader_keeps_its_limit(rt: HostRuntime) -> Result<(), AllocError> {
     let alloc = rt.alloc();
@@ -132,8 +132,8 @@ fn a_reader_keeps_its_limit(rt: HostRuntime) -> Result<(), AllocError> {
     Ok(())
 }
 
-/// Feeds a piece, once more where there was no memory. Answers how many RPCs there are then, and
-/// how many bytes are pending.
+/// Feeds a piece, and feeds it again if the first feed was out of memory. It returns how many RPCs there are then, and how
+/// many bytes are pending.
 fn feed_piece(
     alloc: Global,
     reader: &mut FrameReader,

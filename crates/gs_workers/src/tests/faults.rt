@@ -12,8 +12,7 @@ use std::sync::atomic::{AtomicU64, Ordering};
 use std::test::*;
 use std::thread::Threads;
 
-/// A runtime whose source of randomness, which each thread needs before it drives futures, fails the
-/// first time.
+/// A runtime whose source of randomness fails the first time. Each thread needs it before it drives futures.
 #[derive(Drop)]
 struct FailsFirst<R> {
     inner: R,
@@ -41,7 +40,7 @@ impl<R: RandomSource> RandomSource for FailsFirst<R> {
     }
 }
 
-/// How futures ended that wait for a flag.
+/// How many of the futures that wait for a flag ended by it, and how many in vain.
 #[derive(Drop)]
 struct EndCounts {
     by_flag: AtomicU64,
@@ -90,8 +89,8 @@ fn futures_that_wait<'w>(
     Ok(futures)
 }
 
-/// Whether `workers` workers, each with one future that waits for the flag, end with `NoThread` where
-/// one of them has no random bytes; and each of the other futures ends by the flag.
+/// Whether `workers` workers, each with one future that waits for the flag, end with `NoThread` if one of them has no random
+/// bytes. Each of the other futures must end by the flag.
 fn a_thread_is_missing<R>(rt: R, workers: usize) -> Result<bool, AllocError>
 where
     R: Threads + Wait + RandomSource + AllocGlobal + Sync + Drop,

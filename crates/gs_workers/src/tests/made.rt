@@ -11,7 +11,7 @@ use std::sync::atomic::{AtomicU64, Ordering};
 use std::thread;
 use std::thread::Threads;
 
-/// A future that gives its number once it was polled so often before.
+/// A future that gives its number after this many polls.
 #[derive(Drop)]
 pub struct Numbered {
     pub number: u16,
@@ -32,7 +32,7 @@ impl Future for Numbered {
     }
 }
 
-/// Futures with the first numbers. Each waits for one poll more than the one before it.
+/// Futures with the numbers from 0 on. Each waits for one poll more than the one before it.
 pub fn first_numbers(alloc: Global, count: u8) -> Result<Vec<Numbered>, AllocError> {
     let mut futures = Vec::new(alloc);
     for number in 0..count {
@@ -56,7 +56,7 @@ where
     run_all(rt, workers, stop, futures)
 }
 
-/// A place at which four futures wait for each other.
+/// A place where four futures wait for each other.
 #[derive(Drop)]
 pub struct Meeting {
     here: AtomicU64,
@@ -69,7 +69,7 @@ impl Meeting {
         }
     }
 
-    /// Comes there, and waits until all four are. False where that takes too long.
+    /// Comes to the place, and waits until all four are there. Returns false if that takes too long.
     fn wait(&self, number: u32) -> bool {
         self.here.fetch_or(1 << (number % 4), Ordering::SeqCst);
         for _ in 0..10_000_000u32 {

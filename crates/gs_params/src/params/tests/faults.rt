@@ -1,4 +1,4 @@
-//! Which check fails first, and what a fault says of it.
+//! Which check fails first, and what a fault says about it.
 use super::*;
 use crate::parameter::{Parameter, TopicParameter};
 

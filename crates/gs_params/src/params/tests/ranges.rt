@@ -58,8 +58,7 @@ fn each_range_has_its_bounds(rt: HostRuntime) -> Result<(), AllocError> {
     Ok(())
 }
 
-/// A parameter that may be 0 and has no sign, the greatest value that it may have, and the number of the
-/// refusal of the value above this.
+/// A parameter that may be 0 and has no sign, its greatest value, and the number of the refusal of the next value.
 static FROM_0: [(&str, i64, u8); 16] = [
     ("opportunistic_threshold", 1_000_000_000_000, 2),
     ("gossip_factor", 1_000_000, 3),
