@@ -17,8 +17,8 @@ pub struct Neighbour {
     pub address: Bytes,
     /// The score that the application gives it, in millionths (gossipsub v1.1, Peer Scoring, P5).
     pub app: i128,
-    /// Whether the peer has a peering agreement with it (gossipsub v1.1, Explicit Peering Agreements). If so, messages go
-    /// to it while it is up and on their topic. It never enters a mesh or a fanout, and is never on the graylist.
+    /// Whether the peer has a peering agreement with it (gossipsub v1.1, Explicit Peering Agreements). If so, messages go to it
+    /// while it is up and on their topic. Such a neighbour never enters a mesh or a fanout, and is never on the graylist.
     pub explicit: bool,
 }
 

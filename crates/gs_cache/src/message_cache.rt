@@ -164,8 +164,8 @@ impl MessageCache {
         }
     }
 
-    /// Returns the identifiers to announce on a topic (gossipsub v1.0, "Gossip Emission"). They are of messages that were
-    /// last put on this topic, less than `gossip` shifts ago. They stand in the order of those puts. If there are more than
+    /// Returns the identifiers to announce on a topic (gossipsub v1.0, "Gossip Emission"). They are of messages whose last
+    /// put was on this topic, less than `gossip` shifts ago. They stand in the order of those puts. If there are more than
     /// 5,000, only the last 5,000 are returned.
     ///
     /// # Errors

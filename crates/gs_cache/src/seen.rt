@@ -69,8 +69,8 @@ impl SeenCache {
     }
 
     /// Says whether a neighbour's delivery of a message comes soon after the first one, and is its first (gossipsub v1.1,
-    /// Peer Scoring, P3). The message must have been marked as seen less than the cache's time ago, and at most `window`
-    /// milliseconds ago. The neighbour must not have been noted for it since.
+    /// Peer Scoring, P3). It comes soon if the message was marked as seen less than the cache's time ago, and at most
+    /// `window` milliseconds ago. It is the neighbour's first if the neighbour was not noted for the message since.
     pub fn is_near(&self, id: &MsgId, peer: PeerNo, now: Millis, window: Millis) -> bool
         ensures { result ≡ is_near_in peer now.0 window.0 (what_counts self.now id.now now.0) }
     {

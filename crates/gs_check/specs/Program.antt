@@ -31,7 +31,8 @@ pub record Accepts (input : Option (List ℕ)) (answer : List ℕ) : Type 0 wher
   pub scenario : IsScenario input plan
   pub text : answer ≡ summary plan
 
--- the answer is the number and the place of the input's refusal, which is not out of memory
+-- The answer begins with the number and the place of the input's refusal, and words follow. The refusal is not 32, out of
+-- memory.
 pub record Refuses (input : Option (List ℕ)) (answer : List ℕ) : Type 0 where
   pub fault : ScenarioFault
   pub refused : IfSome input (λ bytes. IsRefusal bytes fault)
@@ -55,7 +56,7 @@ pub record Answered (verdict : Verdict) (input output output' errors errors' : O
   pub text : Appends output output' answer
   pub silent : Keeps errors errors'
 
--- a read of the input failed, or the input had not ended after the most reads
+-- a read of the input failed, or the input had not ended after `MOST_READS` reads
 pub record InputFailed (output output' errors errors' : Option (List ℕ)) : Type 0 where
   pub line : AppendsFront errors errors' (codes "input failed\n")
   pub silent : Keeps output output'

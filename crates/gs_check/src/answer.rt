@@ -18,7 +18,7 @@ pub enum Verdict {
     Accepted,
     /// The input is refused.
     Refused,
-    /// None: the program was out of memory for the plan or for the answer's text.
+    /// Nothing: the program was out of memory for the input, for the plan or for the answer's text.
     NoMemory,
 }
 
@@ -38,7 +38,7 @@ pub const NO_MEMORY_ANSWER: &str =
 pub enum NoAnswer {
     /// A read of the input failed, or it was read `MOST_READS` times and had not ended.
     InputFailed,
-    /// Out of memory for the plan or for the answer.
+    /// Out of memory for the input, for the plan or for the answer.
     NoMemory,
 }
 

@@ -69,8 +69,8 @@ abbrev pub loss_happenings : Scene → Loss → List Happening
 loss_happenings s Gone = []
 loss_happenings s Fault = on_none s kinds.Faults 1 ∷ []
 
--- What an event with these marks counts as, if this came to nothing at it. Each event is named here, so that a new one must
--- be decided on.
+-- What an event with these marks counts as. `fallen` is what came to nothing at it. Each event is named here, so that a new
+-- one must be decided on.
 abbrev pub event_happenings : (Message → List Mark → Fate) → Scene → List Fallen → Event → List Mark → List Happening
 event_happenings fate s fallen (Heard q rpc) marks = rpc_happenings (heard_of s q) fallen
 event_happenings fate s fallen (Late q rpc) marks = []

@@ -1,4 +1,5 @@
-//! How long RPCs are as bytes. The length of an RPC with one message only is computed, and any other RPC is written to find it.
+//! How long RPCs are as bytes. The length of an RPC of one message with only a payload and a topic is computed, if the topic is
+//! short enough. Any other RPC is written to find its length.
 ghost use Rattle.std.specs.Prelude.{◌≡◌, ◌≤◌, ◌+◌, if◌then◌else◌, IfOk, IfSome, length, nat_le, None, Some};
 ghost use Rattle.gs_base.specs.Rpcs.{passed_on, publication};
 ghost use Rattle.gs_wire.specs.Messages.{body, frame, longest_body};

@@ -19,7 +19,7 @@ use Rattle.gs_direct.specs.declared.outlet.Outlet.{Outlet}
 
 -- ---- what is written
 
--- it fits a frame, and its values are in memory
+-- it fits a frame, its body fits in memory, and each backoff is a number of 64 bits
 abbrev pub IsWritten : Rpc → Type 0
 IsWritten rpc = (codec.fits rpc ≡ true) × IsInMemory rpc
 

@@ -30,7 +30,7 @@ pub record IsNewPeer (plan : Plan) (p : PeerNo) (peer : Peer) : Type 0 where
   pub outlets : AllZip IsNew (neighbours plan p) peer.outlets.items
 
 -- It hears these letters and does everything else that it has to do in the round. Some lines are refused. Its neighbours are
--- sent what was added to its trace.
+-- sent what the new entries of its trace say.
 pub record PlaysRound (r : ℕ) (now : Millis) (letters : List Letter) (old new : Peer) : Type 0 where
   pub number : new.number ≡ old.number
   pub agenda : new.agenda ≡ old.agenda

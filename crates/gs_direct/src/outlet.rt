@@ -19,7 +19,7 @@ use std::alloc::{AllocError, Global};
 use std::mem;
 
 /// What a peer sends to one neighbour. RPCs go as shared values. Once raw bytes are put on the link, everything goes through
-/// a reader of frames, since those bytes may begin within a frame.
+/// a reader of frames. Raw bytes may end within a frame, and what follows then begins within it.
 #[derive(Drop)]
 pub struct Outlet {
     /// The neighbour.
@@ -171,7 +171,7 @@ impl Outlet {
         }
     }
 
-    /// Sends the neighbour nothing more, where it is the one that is lost.
+    /// Sends the neighbour only what is gathered, and then the close, where it is the one that is lost.
     fn close_lost(&mut self, alloc: Global, lost: PeerNo) -> Result<(), AllocError>
         requires { self.old.is_open ≡ true }
         ensures { OnOk result (Closes (same_peer lost self.old.to) self.old self.new) }

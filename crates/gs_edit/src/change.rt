@@ -16,8 +16,8 @@ const DEEPEST: u32 = 80;
 /// The text of the scenario that was read, with each argument's value at its key.
 ///
 /// # Errors
-/// `InputFailed` where a read failed, or the input had not ended after the most reads that are made; `Refused` with the
-/// first refusal, and `NoMemory`.
+/// `InputFailed` where a read failed, or the input had not ended after `MOST_READS` reads; `Refused` with the first
+/// refusal, and `NoMemory`.
 pub(crate) fn changed(
     alloc: Global,
     arguments: &[String],

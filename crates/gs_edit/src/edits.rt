@@ -51,7 +51,7 @@ impl From<EditFault> for NoChange {
 pub enum NoChange {
     /// The scenario can't be changed in the way that the arguments ask for.
     Refused(Refusal),
-    /// A read of the input failed, or the input had not ended after the most reads that are made.
+    /// A read of the input failed, or the input had not ended after `MOST_READS` reads.
     InputFailed,
     /// Out of memory.
     NoMemory,

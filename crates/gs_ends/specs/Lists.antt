@@ -86,7 +86,7 @@ joints_listed lists = map joint_in_lists lists
 abbrev pub taken_listed : List Listed → PeerNo → List Slot
 taken_listed lists q = slots_with (λ ends. taken_of ends.2) lists q
 
--- the same three for ends, with all that was accepted for a neighbour
+-- the same two for ends, and all that was accepted for a neighbour
 abbrev pub joints_in_lists : ListedEnds → List Joint
 joints_in_lists ends = joints_listed ends.lists
 

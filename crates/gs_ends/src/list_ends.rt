@@ -127,8 +127,8 @@ impl Ends for ListEnds {
 
     ghost taken = { λ s q. taken_in_lists s q };
 
-    /// Puts the item at the back of what goes to a neighbour. It answers `Full` only where the put is refused for its count, or
-    /// there is no room.
+    /// Puts the item at the back of what goes to a neighbour. It answers `Full` exactly where the end has not accepted the
+    /// close, and the put is refused for its count or there is no room.
     fn put(&mut self, to: PeerNo, item: Item) -> Result<(), SendRefused>
         requires known { has (joints_in_lists self.old) to ≡ true }
         requires size { IsSendable item }

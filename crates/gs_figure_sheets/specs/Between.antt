@@ -34,7 +34,8 @@ scores_between by about peers = flat_map (λ (x : PeerNo × Finished). scores_ab
 abbrev pub span_between : Chosen → Chosen → List (PeerNo × Finished) → Option Span
 span_between by about peers = span_of (scores_between by about peers)
 
--- the lowest scores that each of some peers gives each of some others over the run, and the lowest of all these
+-- The lowest score that each of some peers gives each of some others over the run, with its first moment. Also, the lowest of
+-- all these.
 abbrev pub opinions_between : Chosen → Chosen → List PairOpinion → List PairOpinion
 opinions_between by about pairs =
     filter (λ (x : PairOpinion). is_chosen by x.by && is_chosen about x.of) pairs

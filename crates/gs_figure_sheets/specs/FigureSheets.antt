@@ -56,7 +56,7 @@ abbrev pub lines_of_peers : Plan → Report → Chosen → Found → List Line
 lines_of_peers plan report among found =
     peer_lines plan found.parties (figures_of_peers found.known among report.peers.items)
 
--- which subscribers messages reached, then peers, then groups
+-- how many subscribers messages reached, then peers, then groups
 abbrev pub sheets_with : Plan → Report → Wishes → Chosen → Found → List Sheet
 sheets_with plan report w among found =
     sheets_among plan (chosen_by plan report w.by) among found.messages

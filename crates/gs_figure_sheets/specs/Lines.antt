@@ -124,6 +124,6 @@ topic_line x = named_line x.topic.0 (Some (only_counts x.counts))
 abbrev pub link_line : Plan → LinkCounts → Line
 link_line plan x = line_of (Named (name_of plan x.from) ∷ Named (name_of plan x.to) ∷ []) (Some (only_counts x.counts))
 
--- those links on which the trace of at least one end counts
+-- those links that have at least one end whose trace counts
 abbrev pub links_at : Chosen → List LinkCounts → List LinkCounts
 links_at among links = filter (λ (x : LinkCounts). is_chosen among x.from || is_chosen among x.to) links

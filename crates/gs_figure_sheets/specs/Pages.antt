@@ -78,7 +78,7 @@ label_columns Rounds = Round ∷ []
 label_columns Topics = Topic ∷ []
 label_columns Links = From ∷ To ∷ []
 
--- how many of these columns have names
+-- how many of these columns hold names
 abbrev pub name_columns : Subject → ℕ
 name_columns Run = 1
 name_columns Rounds = 0

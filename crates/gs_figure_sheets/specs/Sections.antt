@@ -14,7 +14,7 @@ use Rattle.gs_figure_sheets.specs.declared.wanted.Subject.TheVariants.{Run, Roun
 
 -- ---- what belongs to links and topics
 
--- what an event of a kind belongs to, in addition to its peer
+-- what a happening of a kind concerns in addition to its peer
 abbrev pub concern_of : Kind → Concern
 concern_of RpcsHeard = OnLink
 concern_of New = OnBoth
@@ -185,7 +185,7 @@ is_of_round LowestInRun = false
 is_of_round LowestAt = false
 is_of_round (LowestOf place) = true
 
--- a figure is a count, and the predicate holds for what its events belong to
+-- a figure is a count, and the predicate holds for what its happenings concern
 abbrev pub is_count_of : (Concern → Bool) → Figure → Bool
 is_count_of counts (Of kind) = counts (concern_of kind)
 is_count_of counts BytesHeard = false

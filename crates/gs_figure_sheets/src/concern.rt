@@ -1,10 +1,10 @@
-//! Whether events that are counted belong to a link, to a topic, to both or to neither.
+//! Whether happenings of a kind concern a link, a topic, both or neither.
 ghost use Rattle.std.specs.Prelude.{◌≡◌};
 ghost use Rattle.gs_figure_sheets.specs.Sections.{concern_of, is_on_link, is_on_topic};
 
 use gs_counts::Kind;
 
-/// What an event that is counted belongs to, in addition to its peer.
+/// What a happening concerns in addition to its peer.
 #[derive(Clone, Copy, Debug, PartialEq, Eq)]
 pub enum Concern {
     OnLink,
@@ -14,7 +14,7 @@ pub enum Concern {
 }
 
 impl Concern {
-    /// Returns what events of a kind belong to.
+    /// Returns what happenings of a kind concern.
     pub(crate) fn of(kind: Kind) -> Concern
         ensures { result ≡ concern_of kind }
     {

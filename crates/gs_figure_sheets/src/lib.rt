@@ -1,5 +1,5 @@
-//! Figures of a run as sheets. They state which subscribers each message reached, and in how many rounds. They state what
-//! each peer heard and sent, what had no effect and why, its meshes and its scores. The same figures come by rounds, by
+//! Figures of a run as sheets. They state how many subscribers each message reached, and in how many rounds. They state
+//! what each peer heard and sent, what had no effect and why, its meshes and its scores. The same figures come by rounds, by
 //! topics and by links. Another sheet states what passes from group to group.
 #![tactic(auto)]
 

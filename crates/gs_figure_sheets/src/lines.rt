@@ -274,7 +274,7 @@ fn topic_line(alloc: Global, topic: &TopicCounts) -> Result<Line, AllocError>
     )
 }
 
-/// Returns the rows of those links on which the trace of at least one end counts.
+/// Returns the rows of those links that have at least one end whose trace counts.
 ///
 /// # Errors
 /// `AllocError` when out of memory.

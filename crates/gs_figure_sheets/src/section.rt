@@ -147,7 +147,7 @@ fn is_shown(subject: Subject, figure: Figure) -> bool
     }
 }
 
-/// Says whether a figure counts events that belong to topics.
+/// Says whether a figure counts happenings on topics.
 fn is_on_topic(figure: Figure) -> bool
     ensures { result ≡ is_count_of is_on_topic figure }
 {
@@ -157,7 +157,7 @@ fn is_on_topic(figure: Figure) -> bool
     }
 }
 
-/// Says whether a figure counts events that belong to links.
+/// Says whether a figure counts happenings over links.
 fn is_on_link(figure: Figure) -> bool
     ensures { result ≡ is_count_of is_on_link figure }
 {

@@ -64,7 +64,7 @@ fn sheets_of(
     }
 }
 
-/// Returns the sheets about a whole run: which subscribers messages reached, then peers, then groups.
+/// Returns the sheets about a whole run: how many subscribers messages reached, then peers, then groups.
 fn run_sheets(
     alloc: Global,
     plan: &Plan,

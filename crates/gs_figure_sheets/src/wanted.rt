@@ -14,7 +14,7 @@ pub enum Layout {
 /// What the rows of figures are about.
 #[derive(Clone, Copy, Debug, PartialEq, Eq)]
 pub enum Subject {
-    /// The whole run: which subscribers messages reached, what each peer did, and what passed from group to group.
+    /// The whole run: how many subscribers messages reached, what each peer did, and what passed from group to group.
     Run,
     /// The rounds of the run.
     Rounds,

@@ -30,7 +30,7 @@ pub record TakingEnd : Type 0 where
 
 -- ---- send and close
 
--- at one moment as many slots waited as the capacity, at the end of what was accepted
+-- at one moment the number of slots that waited was the capacity, and they were the last that were accepted
 abbrev pub FoundFull : SendingEnd → Type 0
 FoundFull end =
     (taken : List Slot) × (waiting : List Slot)

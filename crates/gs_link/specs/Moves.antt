@@ -1,4 +1,4 @@
--- The rule of a link, and the eight moves that it allows. A move is an atomic step on the queue, or only one on its passes.
+-- The rule of a link, and the eight moves that it allows. A move is an atomic step on the queue, or a step on its passes only.
 use Rattle.std.specs.Prelude.{◌≡◌, ℕ, Bool, true, false, List, [], ◌∷◌, ◌++◌}
 use mathlib.Core.Option.{some}
 use lib.ListN.{get_elem?}

@@ -129,7 +129,7 @@ impl<'p, G: Gate + Copy, R: Wait + Drop + Copy> Builder<'p, G, R> {
     }
 }
 
-/// Creates what the tasks of each worker share about payloads, for this many workers. Nothing is known in them yet.
+/// Creates, for each of this many workers, what its tasks share about payloads. Nothing is known about any payload yet.
 ///
 /// # Errors
 /// `AllocError` if memory runs out.

@@ -14,7 +14,7 @@ generator_word g = (pcg32 g).0
 abbrev pub generator_after : Lcg → Lcg
 generator_after g = (pcg32 g).1
 
--- What seeded words were made from, and how many were drawn.
+-- What seeded words were made from, and how far they were drawn.
 pub record SeededState : Type 0 where
   -- the whole list
   pub list : List ℕ

@@ -99,7 +99,7 @@ impl Inbox {
     }
 
     /// Takes what comes next from the neighbour, and returns whether anything came. No caller takes more after the round end
-    /// that ends a phase, so the stage holds what one round brought.
+    /// that ends what is heard in a phase, so the stage holds what one round brought.
     ///
     /// # Errors
     /// `AllocError` if memory runs out.

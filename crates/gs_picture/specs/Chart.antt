@@ -32,7 +32,7 @@ tall = 200
 unfoldable pub spacings : List ℕ
 spacings = 1 ∷ 2 ∷ 5 ∷ 10 ∷ 20 ∷ 50 ∷ 100 ∷ 200 ∷ 500 ∷ 1_000 ∷ 2_000 ∷ 5_000 ∷ 10_000 ∷ []
 
--- the first of these that times ten is more than a number, or 20,000 where there is none
+-- the first of these that is more than a tenth of a number, or 20,000 where there is none
 abbrev pub first_above : ℕ → List ℕ → ℕ
 first_above n [] = 20_000
 first_above n (k ∷ ks) = if nat_lt n (10 * k) then k else first_above n ks

@@ -1,4 +1,4 @@
--- How many rounds each message on a topic took to reach its subscribers, and the same for all messages together.
+-- How many rounds each accepted message on a topic took to reach its subscribers, and the same for all of them together.
 use Rattle.std.specs.Prelude.{ℕ, ◌+◌, ◌∷◌, [], Bool, true, false, nat_eq, max, if◌then◌else◌, List, filter, fold, map}
 use Rattle.gs_base.specs.declared.names.Topic.{Topic}
 use Rattle.gs_base.specs.Names.{same_topic}

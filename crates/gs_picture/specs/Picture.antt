@@ -1,5 +1,5 @@
 -- The picture of a run: the mesh edges of a topic at the end, the scores that some peers give each peer, and how many rounds
--- each message on the topic took to reach those peers.
+-- each accepted message on the topic took to reach those peers.
 use Rattle.std.specs.Prelude.{ℕ, ◌+◌, ◌*◌, List, ◌++◌, length, Option}
 use Rattle.gs_base.specs.declared.names.Topic.{Topic}
 use Rattle.gs_plan.specs.declared.plan.Plan.{Plan}

@@ -81,7 +81,7 @@ fn axis_to(rounds: u64) -> Axis
     }
 }
 
-/// The first of these that times ten is more than a number, or 20,000 where there is none.
+/// The first of these that is more than a tenth of a number, or 20,000 where there is none.
 fn first_above(number: u64, spacings: &[u64]) -> u64
     ensures { result ≡ first_above number spacings.now }
 {

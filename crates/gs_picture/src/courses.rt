@@ -1,4 +1,4 @@
-//! How many rounds each message on a topic took to reach its subscribers, and the same for all messages together.
+//! How many rounds each accepted message on a topic took to reach its subscribers, and the same for all of them together.
 ghost use Rattle.std.specs.Prelude.{◌≡◌, ◌<◌, ◌^◌, [], ◌∷◌, ◌++◌, fold, IfOk, max, OnOk, List, option_to_list};
 ghost use Rattle.gs_reach.specs.Chosen.{is_accepted};
 ghost use Rattle.gs_reach.specs.Messages.{messages};

@@ -1,5 +1,5 @@
 //! A picture of a run: the mesh edges of a topic, the scores that some peers give each peer, and how many rounds each
-//! message took to reach those peers.
+//! accepted message took to reach those peers.
 #![tactic(auto)]
 
 mod chart;

@@ -19,7 +19,7 @@ use gs_report::Report;
 use std::alloc::{AllocError, Global};
 
 /// Returns the picture of a run of a plan, as SVG. It shows the mesh edges of the topic at the end, and how the chosen peers
-/// score each peer. It also shows how many rounds each message on the topic took to reach those peers.
+/// score each peer. It also shows how many rounds each accepted message on the topic took to reach those peers.
 ///
 /// # Errors
 /// `AllocError` if it runs out of memory.

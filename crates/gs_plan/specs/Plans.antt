@@ -151,18 +151,18 @@ pub record IsInRange (plan : Plan) : Type 0 where
   pub dials_to : All (λ (dial : Dial). IsOneOf plan.peers dial.to) plan.dials
   pub dials_to_others : All (λ (dial : Dial). same_peer dial.from dial.to ≡ false) plan.dials
   pub dials_differ : AllPairs (λ x y. join_the_same y x ≡ false) plan.dials
-  -- each score is of a peer of the plan for a neighbour of it, and no other score is of the same two
+  -- Each score is of a peer of the plan for a neighbour of it. No two are of the same peer for the same neighbour.
   pub apps_of : All (λ (app : App). IsOneOf plan.peers app.peer) plan.apps
   pub apps_about : All (λ (app : App). are_joined plan.dials app.peer app.about ≡ true) plan.apps
   pub app_values : All (λ (app : App). IsAppScore app.value) plan.apps
   pub apps_differ : AllPairs (λ x y. are_of_the_same y x ≡ false) plan.apps
-  -- each peering agreement is of a peer of the plan with a neighbour of it, and no other agreement is of the same two
+  -- Each peering agreement is of a peer of the plan with a neighbour of it. No two are of the same peer with the same neighbour.
   pub explicit_of : All (λ (agreement : Explicit). IsOneOf plan.peers agreement.peer) plan.explicit
   pub explicit_about :
       All (λ (agreement : Explicit). are_joined plan.dials agreement.peer agreement.about ≡ true) plan.explicit
   pub explicit_differ : AllPairs (λ x y. are_one_pair y x ≡ false) plan.explicit
-  -- Each line of the script is for a peer of the plan, in one of its rounds. Its topic is one of the plan. Its neighbour is
-  -- one of the peer.
+  -- Each line of the script is for a peer of the plan, in one of its rounds. Its topic, if it has one, is one of the plan.
+  -- Its neighbour, if it has one, is one of the peer. Its raw bytes, if it has any, are not too many.
   pub lines_of : All (λ (line : Line). IsOneOf plan.peers line.peer) plan.script
   pub lines_at : All (λ (line : Line). line.at ≤ plan.rounds) plan.script
   pub lines_on

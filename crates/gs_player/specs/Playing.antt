@@ -32,7 +32,7 @@ pub record Runs (m : Mode) (now : Millis) (todos : List Todo)
 abbrev pub RpcsFit : List Rpc → Type 0
 RpcsFit rpcs = AllByRecursion (λ rpc. codec.fits rpc ≡ true) rpcs
 
--- what these lines give to do in a round
+-- what there is to do in a round because of these lines
 abbrev pub own_lines : ℕ → List (ℕ × Line) → List Todo
 own_lines r lines = map obey (filter (is_at r) lines)
 

@@ -26,7 +26,8 @@ abbrev pub GoesOn : Result Plan ScenarioFault → Result Plan ExitStatus → (er
 GoesOn (Ok plan) result errors errors' = (result ≡ Ok plan) × (errors' ≡ errors)
 GoesOn (Err fault) result errors errors' = (result ≡ Err ends.ScenarioRefused) × TellsRefusal fault errors errors'
 
--- how the program ends where an input was not read to its end: only a read that failed ends it as a failed input
+-- How the program ends where an input was not read to its end. Only `Failed` ends it as a failed input, and each other fault
+-- as a refused scenario.
 abbrev pub EndsUnread : ReadFault → Result Plan ExitStatus → (errors errors' : Option (List ℕ)) → Type 0
 EndsUnread reads.Failed result errors errors' =
     (result ≡ Err ends.InputFailed) × AppendsFront errors errors' (codes "input failed\n")

@@ -66,7 +66,7 @@ pub record ScenarioRefused (input output output' errors errors' : Option (List �
   pub line : AppendsFront errors errors' (refusal_line fault)
   pub silent : Keeps output output'
 
--- A run of the scenario met a fault, or it was out of memory for the text about it. The line of that is on errors, or a
+-- A run of the scenario met a fault, or memory ran out for the text about the run. The line of that is on errors, or a
 -- front of it, and the output has nothing more.
 pub record RunRefused (needs_threads : Bool) (input output output' errors errors' : Option (List ℕ)) : Type 0 where
   pub plan : Plan
@@ -76,7 +76,7 @@ pub record RunRefused (needs_threads : Bool) (input output output' errors errors
   pub tells : TellsFault plan fault errors errors'
   pub silent : Keeps output output'
 
--- a read of the input failed, or the input had not ended after the most reads
+-- a read of the input failed, or the input had not ended after `MOST_READS` reads
 pub record InputFailed (output output' errors errors' : Option (List ℕ)) : Type 0 where
   pub line : AppendsFront errors errors' (codes "input failed\n")
   pub silent : Keeps output output'
@@ -111,8 +111,8 @@ module _ (text_of : Plan → Report → List ℕ) where
     pub text : AppendsFront output output' (text_of plan report)
     pub line : AppendsFront errors errors' (codes "output failed\n")
 
-  -- A run of the scenario ended, and it was out of memory for the rest of its text. A front of the text is on the output.
-  -- The line for out of memory is on errors, or a front of it.
+  -- A run of the scenario ended, and memory ran out for the rest of its text. A front of the text is on the output. The
+  -- line for out of memory is on errors, or a front of it.
   pub record TextRefused (input output output' errors errors' : Option (List ℕ)) : Type 0 where
     pub plan : Plan
     pub scenario : IsScenario input plan

@@ -30,8 +30,9 @@ pub fn refuse_arguments<E: Write>(errors: &mut E, usage: &str) -> ExitCode
     ExitCode::from(64)
 }
 
-/// Writes why the arguments could not be read, or a front of that, and returns the status. Either it was out of memory for
-/// them, or one of them is not UTF-8.
+/// Refuses arguments that could not be read. Where memory ran out for them, it writes that, or a front of it, and returns
+/// the status of a refused run. Where one is not UTF-8, it writes how the program is called, or a front of that, and
+/// returns the status for wrong arguments.
 pub fn refuse_unread<E: Write>(cause: ErrorKind, errors: &mut E, usage: &str) -> ExitCode
     ensures memory { cause ≡ ErrorKind.OutOfMemory
         → IsRefusedSo no_memory refused (exit_status result) (E.contents errors.old) (E.contents errors.new) }

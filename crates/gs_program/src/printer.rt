@@ -48,7 +48,7 @@ pub enum PrintFault {
     WriteFailed,
 }
 
-/// Writes a text that was made as a whole, unless it was out of memory for the text.
+/// Writes a text that was made as a whole, unless memory ran out for it.
 ///
 /// # Errors
 /// `NoMemory` when out of memory for the text. `WriteFailed` if a write failed, or took no bytes.

@@ -30,7 +30,8 @@ pub enum ExitStatus {
     Reported,
     /// The scenario is refused. A line on `errors`, or a front of it, says so.
     ScenarioRefused,
-    /// The run met a fault, or was out of memory for its text. No field says which, and no clause says that either happened.
+    /// The run met a fault, or memory ran out for the text about it. No field says which, and no clause says that either
+    /// happened.
     RunRefused,
     /// Out of memory for the rest of the text. A front of the text is on the output. By the clause, that may be all of it.
     TextRefused,
@@ -65,8 +66,8 @@ pub struct Program<P> {
 }
 
 impl<P: Printer> Program<P> {
-    /// Reads a scenario from the input, runs it on this thread without links, and writes a text about its report after the
-    /// run. Where there is no text, a line on `errors`, or a front of it, says why.
+    /// Reads a scenario from the input, runs it on this thread without links, and then writes a text about its report to the
+    /// output. Where there is no text, a line on `errors`, or a front of it, says why.
     pub fn run<R, W, E>(&self, input: &mut R, output: &mut W, errors: &mut E) -> ExitStatus
     where
         R: Read,

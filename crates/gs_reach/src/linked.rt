@@ -17,7 +17,7 @@ use std::alloc::{AllocError, Global};
 pub(crate) enum Linked {
     /// Before no moment: it has no neighbour.
     Never,
-    /// Before each moment up to this one, in milliseconds: it then lost the last of them.
+    /// Before each moment up to this one, in milliseconds. At this moment it lost its last neighbour.
     Until(u64),
     /// Before each moment.
     Always,

@@ -26,8 +26,8 @@ pub(crate) struct Tables {
     pub(crate) rounds: Table<Option<u64>>,
 }
 
-/// Answers the questions about each peer for a message. It looks once at each publication and delivery of the payload, and
-/// at each change of the topic.
+/// Answers the questions about each peer for a message. It goes through the publications of the payload on the topic twice. It
+/// goes through the deliveries of the payload and the changes of the topic once.
 pub(crate) fn tables_of(
     alloc: Global,
     plan: &Plan,

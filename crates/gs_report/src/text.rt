@@ -9,7 +9,7 @@ use gs_plan::{Plan, what_word};
 use gs_rules::{Event, Loss, RefusedLine, StoredEntry};
 use std::alloc::{AllocError, Global};
 
-/// Returns the text of a run's report. docs/FORMATS.md lists its lines. First comes a line for each message that was
+/// Returns the text of a run's report. docs/OUTPUTS.md lists its lines. First comes a line for each message that was
 /// delivered, peer by peer in the order of its trace. Then comes one for each refusal, peer by peer in the order of its
 /// list. Then comes one for each fault of a neighbour, peer by peer in the order of its trace. Then come one for each member
 /// of a mesh and one for each score of a neighbour. The line of the links is the last. A peer has the name that the plan

@@ -33,7 +33,7 @@ pub record Follows (f : Follower) (v : Reading) : Type 0 where
   pub made : AreMadeFor f.known.tables v.peer
   pub explicit : ListsExplicit f.known.setup
 
--- the next entry is seen, with what was sent or promised in vain, as seen at it
+-- the next entry is seen, with what it shows to have been sent or promised in vain
 pub record Advances (v : Reading) (seen : Followed) (f : Follower) : Type 0 where
   pub rest : List Entry
   pub next : v.left ≡ seen.entry.now ∷ rest

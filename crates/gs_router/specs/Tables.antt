@@ -149,8 +149,9 @@ left_of most keeping given = option_map (λ (k : Keeping). most - given) keeping
 abbrev pub answers_left : ℕ → ℕ → Entries → PeerNo → MsgId → ℕ
 answers_left most len L q id = unwrap_or (left_of most (kept len L id) (answered L q id)) 0
 
--- The table has those messages kept last that are kept still, in the order in which they were kept. It knows how often each
--- neighbour got one since.
+-- Under each identifier the table has what was kept last, if that is kept still. The identifiers are in the order in which
+-- each was kept last. The table also knows how often each neighbour may still get a message, by how often it got that
+-- message since.
 pub record HasKept (table : Messages) (last : MsgId → Option Keeping) (given : PeerNo → MsgId → ℕ) (order : List MsgId)
     : Type 0 where
   pub some : 0 < table.cache.len

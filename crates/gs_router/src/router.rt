@@ -109,9 +109,9 @@ impl Router {
     /// - `Unsubscribe` announces this to every neighbour that is up, and prunes each member of the mesh. No member may come
     ///   back for `unsubscribe_backoff_s` ("Topic Membership", "Prune Backoff").
     /// - `Publish` delivers the payload to the router's own user if the router is subscribed to the topic. With
-    ///   `flood_publish` it goes to every neighbour that is up and on the topic. Otherwise it goes to the topic's mesh. If
-    ///   the router is not subscribed, it goes to the topic's fanout, which is filled if it is empty. An explicit neighbour
-    ///   that is up and on the topic gets the payload at any score. Any other neighbour that scores below
+    ///   `flood_publish` the payload goes to every neighbour that is up and on the topic. Without it, the payload goes to the
+    ///   topic's mesh if the router is subscribed, and otherwise to the topic's fanout. An empty fanout is filled first. An
+    ///   explicit neighbour that is up and on the topic gets the payload at any score. Any other neighbour that scores below
     ///   `publish_threshold` gets nothing ("Message Processing", "Flood Publishing", "Score Thresholds", "Explicit Peering
     ///   Agreements").
     /// - `Raw` puts any number of bytes on the link, after what was sent and before what is sent later. Nothing else changes.

@@ -8,7 +8,8 @@ use Rattle.gs_rules.specs.declared.trace.Entry.{Entry}
 use Rattle.gs_rules.specs.Tables.{Entries}
 use Rattle.gs_rules.specs.Meshes.{backoff}
 
--- A neighbour entered the mesh of a topic by an entry. It was not in backoff there, and no later entry says that it left.
+-- A neighbour entered the mesh of a topic by an entry. It was not in backoff there at that moment, and no later entry says
+-- that it left.
 pub record CameIn (q : PeerNo) (t : Topic) (L : Entries) : Type 0 where
   pub later : Entries
   pub entry : Entry

@@ -57,7 +57,7 @@ refanning p L at t chosen = record no_effects {
   marks = unfanning t (those_outside (receivers p L at.0 t) (fanout L t)) ++ fanning t chosen;
 }
 
--- Members that may stay do. Any others that may enter do so, up to D.
+-- Members that may stay do. Others are chosen from those that may enter, until there are D members or no others are left.
 abbrev pub fan_beat_rule : Peer → Entries → Millis → Topic → Rule
 fan_beat_rule p L at t =
     AnyOf

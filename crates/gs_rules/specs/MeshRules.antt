@@ -43,9 +43,9 @@ abbrev pub is_full_for : Peer → Entries → PeerNo → Topic → Bool
 is_full_for p L q t =
     if nat_le p.params.degrees.d_high (length (mesh L t)) then not (is_outbound p q) else false
 
--- A GRAFT is ignored if the peer isn't subscribed to the topic, or if it comes from a member. One from an explicit
--- neighbour is refused, whenever it comes. One that comes too soon is refused, and counts against its sender. One is also
--- refused if its sender scores below 0, or if the mesh has no room for it.
+-- A GRAFT changes nothing (`PassedOver`) if the peer isn't subscribed to the topic, or if it comes from a member. One from
+-- an explicit neighbour is refused, whenever it comes. One that comes too soon is refused, and counts against its sender.
+-- One is also refused if its sender scores below 0, or if the mesh has no room for it.
 abbrev pub graft_answer : Peer → Entries → ℕ → PeerNo → Topic → GraftAnswer
 graft_answer p L at q t =
     if not (joined L t) then PassedOver

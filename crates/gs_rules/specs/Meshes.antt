@@ -81,10 +81,11 @@ abbrev pub ever_fanned : Entries → List Topic
 ever_fanned [] = []
 ever_fanned (e ∷ L) = after_marks fanned_topics_after e.effects.marks (ever_fanned L)
 
--- a topic has a fanout while a last publication is known for it, and a mesh while the peer is subscribed to it
+-- a topic has a fanout while a last publication is known for it
 abbrev pub has_fanout : Entries → Topic → Bool
 has_fanout L t = is_some (last_published L t)
 
+-- a topic has a mesh, since the peer is subscribed to it, or a fanout
 abbrev pub has_mesh : Entries → Topic → Bool
 has_mesh L t = joined L t || is_some (last_published L t)
 

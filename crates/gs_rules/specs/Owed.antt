@@ -50,9 +50,9 @@ events_in p L MeshBeats = map (λ t. Step (MeshBeat t)) (own_topics L)
 events_in p L (FanBeats at) = map (fan_event p L at) (fanout_topics L)
 events_in p L Gossips = beats (gossip_topics p L)
 
--- What a heartbeat does at a moment, in order. It mends the mesh of each topic that the peer is subscribed to, then each
--- fanout. It gossips on each topic on which there is something, and then ends. Within a group topics ascend (gossipsub
--- v1.0, "Heartbeat").
+-- What a heartbeat does at a moment, in order. It mends the mesh of each topic that the peer is subscribed to, then it
+-- mends or ends each fanout. It gossips on each topic on which there is something, and then ends. Within a group topics
+-- ascend (gossipsub v1.0, "Heartbeat").
 abbrev pub heartbeat_groups : ℕ → List Group
 heartbeat_groups at = MeshBeats ∷ FanBeats at ∷ Gossips ∷ []
 

@@ -61,7 +61,7 @@ brought_by (Want request) = None
 brought_by (GraftIn graft) = None
 brought_by (PruneIn prune) = None
 
--- a message or a GRAFT is from a neighbour; other parts leave no marks that count for any sender
+-- a message or a GRAFT is from a neighbour; other parts may be from anyone, since each of their marks counts anyway
 abbrev pub IsPartFromNeighbour : Peer → PeerNo → RpcPart → Type 0
 IsPartFromNeighbour p q (Msg m) = is_neighbour p q ≡ true
 IsPartFromNeighbour p q (GraftIn graft) = is_neighbour p q ≡ true

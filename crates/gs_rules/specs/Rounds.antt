@@ -212,8 +212,8 @@ pub record KeepsSoFar (seat : Seat) (said : PeerNo → Said) (phase : Phase) (le
   pub part : PlaysInPart seat said phase left start L more
   pub all_refused : refused ≡ earlier ++ more
 
--- q says what a legal trace says that puts only frames on this link: then what was handled from q, joined, is what that
--- trace sends, joined, except for what it has gathered and not yet put out
+-- What was handled from q, joined, is what a legal trace sends, joined, except for what it has gathered and not yet put
+-- out. This holds for each legal trace that puts only frames on this link, if q says what the trace says.
 abbrev pub HandlesWhatIsSent : Seat → (PeerNo → Said) → Entries → PeerNo → Type 0
 HandlesWhatIsSent seat said L q =
     (other : Peer) (K : Entries)

@@ -19,8 +19,7 @@ use Rattle.gs_rules.specs.Tables.{Entries, after_marks, lost}
 
 -- ---- what happened to the neighbours
 
--- each message and each GRAFT came from a neighbour; of what neighbours say, only these leave marks that count, whoever
--- says it
+-- each message and each GRAFT came from a neighbour; other events need not, since each of their marks counts anyway
 abbrev pub IsFromNeighbour : Peer → Event → Type 0
 IsFromNeighbour p (Part q part) = IsPartFromNeighbour p q part
 IsFromNeighbour p (Heard q rpc) = Unit {0}

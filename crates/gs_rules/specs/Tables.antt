@@ -103,7 +103,7 @@ on_by_sub q t p None before = before
 on_by_sub q t p (Some sub) before =
     if same_peer p q && same_topic (topic_or_empty sub.topic) t then unwrap_or sub.subscribe false else before
 
--- whether it is after a part of an RPC: a change of a subscription decides it again
+-- whether a neighbour is on a topic after a part of an RPC: a change of a subscription decides that again
 abbrev pub on_by : PeerNo → Topic → PeerNo → RpcPart → Bool → Bool
 on_by q t p part before = on_by_sub q t p (subscription_in part) before
 

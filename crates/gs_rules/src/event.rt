@@ -59,7 +59,7 @@ pub enum BeatStep {
     FanBeat(Topic),
     /// The fanout of a topic ended, since the peer has not published on the topic for `fanout_ttl_ms`.
     FanEnd(Topic),
-    /// The kept messages of a topic were gossiped (gossipsub v1.0, "Gossip Emission").
+    /// Identifiers of messages that were kept lately under a topic were gossiped (gossipsub v1.0, "Gossip Emission").
     GossipBeat(Topic),
     /// The heartbeat ended.
     BeatEnd,

@@ -82,8 +82,8 @@ pub fn nothing_is_said_after_a_close()
         → behind ≡ [] }
 {}
 
-/// In a legal trace, no identifier is delivered again, on any topic, while its message counts as seen. The later of two
-/// such entries comes at least `seen_ttl_ms` after the earlier.
+/// In a legal trace, two entries that deliver one identifier, on any topics, are at least `seen_ttl_ms` apart. A message
+/// counts as seen for that time.
 pub fn a_delivery_is_not_repeated()
     ensures { (p : Peer) (entries : Entries) → Legal p entries → DeliversApart (seen_ttl p) entries }
 {}
@@ -164,9 +164,8 @@ pub fn what_was_said_is_handled()
         → AllByRecursion (λ q. Spell (bytes_of (said q)) (handled entries q)) (links_of seat.peer) }
 {}
 
-/// A peer that keeps the rounds handles what a neighbour's legal trace sends to it: whole, once and in order. Joined, the
-/// RPCs of both sides are equal. This holds if the neighbour says what that trace says, and that trace puts only frames on
-/// the link.
+/// A peer that keeps the rounds handles what a neighbour says, if a legal trace says just that, and puts only frames on the link.
+/// The RPCs that it handled and the gathered one, joined, are what the trace sends to it, joined: whole, once and in order.
 pub fn what_was_sent_is_handled()
     ensures { (seat : Seat) (said : PeerNoValue → Said) (entries : Entries) (refused : List RefusedLine)
         → IsAscending (links_of seat.peer)

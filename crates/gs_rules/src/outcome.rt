@@ -51,6 +51,6 @@ pub enum FanoutUse {
     Unused,
     /// The payload goes to members of the fanout, which is kept.
     Kept,
-    /// The receivers of the payload become the fanout.
+    /// The neighbours that get the payload, except explicit ones, become the fanout.
     Filled,
 }

@@ -60,8 +60,7 @@ top_view top = record {
   script = items_view top.script.now;
 }
 
--- every result that a function may give for a value, after the values that were read before it, is the one that a definition
--- gives
+-- a function gives for a value, after the values that were read before it, what a definition gives, unless it is out of memory
 abbrev pub ReadsAs : {A : Type 0} → (Bor (List A) → Bor Value → Result A ScenarioFault → Type 0)
     → (List A → Data → Result A ScenarioFault) → Type 0
 ReadsAs {A} may_say reads = (earlier : Bor (List A)) (value : Bor Value) (said : Result A ScenarioFault)

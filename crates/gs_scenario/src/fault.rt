@@ -11,7 +11,7 @@ use std::error::Error;
 use std::fmt;
 
 /// Why a scenario is refused. Each fault except three names its place first. A key of the top table has its name as place.
-/// Other places are such as `params.d`, `peer[1]` or `do[2].hex`, where elements count from 0.
+/// Other places look like `params.d`, `peer[1]` or `do[2].hex`, where elements count from 0.
 #[derive(Debug, Drop, PartialEq, Eq)]
 pub enum ScenarioFault {
     /// The text is no TOML document.

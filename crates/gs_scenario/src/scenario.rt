@@ -39,10 +39,11 @@ use toml::Table;
 /// Returns the plan that a scenario describes.
 ///
 /// # Errors
-/// The first refusal. A text that is no TOML is refused first. Then the top table is read, then the table of parameters, and
-/// then the lists, element by element. In each table an unknown key is refused first. Then its keys are read in a fixed
-/// order. The parameters are checked last. `NoMemory` may come at any step, and so instead of any refusal. Only tests show
-/// that a scenario which is to be refused isn't refused as out of memory.
+/// The first refusal. A text that is no TOML is refused first. Then the top table is read, then the table of parameters,
+/// and then the lists, element by element. In each table an unknown key is refused first. In an element of `do`, only a
+/// fault of `what` comes before that. Then the keys are read in a fixed order. The parameters are checked last. `NoMemory`
+/// may come at any step, and so instead of any refusal. Only tests show that a scenario which is to be refused isn't
+/// refused as out of memory.
 pub fn read_plan(alloc: Global, text: &str) -> Result<Plan, ScenarioFault>
     ensures plan { GivesSame result (plan_of text.now) }
     ensures in_range { IfOk result (λ plan. IsInRange plan) }

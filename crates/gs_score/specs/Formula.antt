@@ -56,7 +56,7 @@ topic_part r now h = times r.factors.topic_weight (weighed r now h)
 abbrev pub p5 : ℤ → ℤ
 p5 app = app
 
--- P6, IP colocation: the square of how many neighbours are at its address above the threshold
+-- P6, IP colocation: the square of the number by which the neighbours at its address exceed the threshold
 abbrev pub p6 : ℕ → ℕ → ℕ
 p6 threshold n = if nat_lt threshold n then squared (1_000_000 * (n - threshold)) else 0
 

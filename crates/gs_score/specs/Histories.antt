@@ -31,7 +31,7 @@ use Rattle.gs_score.specs.Ledgers.{standing_of, topics_of}
 abbrev pub one : ℕ
 one = 1_000_000
 
--- what a deficit adds to a counter, which holds no more
+-- what a deficit adds to a counter: at most `most_counted`, since no counter holds more, and 0 if it is below 0
 abbrev pub capped_deficit : ℤ → ℕ
 capped_deficit z = if int_lt z (pos 0) then 0 else min (unsigned_abs z) most_counted
 

@@ -33,8 +33,8 @@ impl Decay {
     }
 
     /// Returns what this many steps leave of a value. It stops when a step changes nothing, or leaves 0. It applies steps
-    /// that take the same amount at once. So the cost depends on how many different amounts the steps take, and not on
-    /// their number.
+    /// in a row together if they take the same amount. So the cost depends on how many different amounts the steps take,
+    /// and not on their number.
     fn after(self, value: u64, steps: u64) -> u64
         requires factor { self.factor ≤ 10 ^ 6 }
         requires value { value ≤ 10 ^ 12 }

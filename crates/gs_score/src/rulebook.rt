@@ -85,7 +85,7 @@ impl Rulebook {
         &self.params
     }
 
-    /// Says whether any counter may have a weight on any topic. If none may, each topic gives 0 at each moment.
+    /// Says whether anything that is counted on any topic may weigh. If nothing may, each topic gives 0 at each moment.
     pub fn any_weighs(&self) -> bool
         ensures { result ≡ false → NothingWeighs self.now }
     {

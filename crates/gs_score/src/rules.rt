@@ -84,7 +84,7 @@ impl TopicRules {
     }
 }
 
-/// Says whether any counter has a weight on any of these topics. All other topics have the defaults, which weigh nothing.
+/// Says whether anything that is counted on any of these topics weighs. All other topics have the defaults, which weigh nothing.
 pub(crate) fn any_weighs(topics: &[(Topic, TopicParams)]) -> bool
     ensures { result ≡ false
         → (params : ParamsValue)
@@ -100,8 +100,8 @@ pub(crate) fn any_weighs(topics: &[(Topic, TopicParams)]) -> bool
     false
 }
 
-/// Says whether any counter has a weight on a topic. None has one if the topic's weight is 0, or if the weight of each
-/// counter is 0.
+/// Says whether anything that is counted on a topic weighs: the time in the mesh (P1) or a counter (P2 to P4). Nothing does
+/// if the topic's weight is 0, or if each of the five weights is 0.
 fn weighs(factors: &TopicFactors) -> bool
     ensures { result ≡ false
         → TopicFactorsAreInRange factors.now

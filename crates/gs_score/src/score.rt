@@ -99,7 +99,7 @@ fn weighed_misbehaviour(factors: &Factors, misbehaviour: u64) -> i128
     weighed(factors.w7, squared(misbehaviour))
 }
 
-/// Returns the square of how many neighbours are at an address above the threshold, in millionths (P6): 0 to 10^18.
+/// Returns the square of the number by which the neighbours at an address exceed the threshold, in millionths (P6): 0 to 10^18.
 fn crowd(threshold: u64, number: u64) -> u64
     requires { number ≤ 10 ^ 6 }
     ensures value { result ≡ p6 threshold number }

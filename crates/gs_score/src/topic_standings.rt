@@ -15,8 +15,8 @@ use indexmap::IndexMap;
 use std::alloc::{AllocError, Global};
 use std::marker::Model;
 
-/// What a neighbour has on each topic. On all other topics it has nothing. How a topic is scored is looked up in a
-/// rulebook, so no copy of the rules is stored here.
+/// What a neighbour has on topics, by topic. On a topic that is not listed it has nothing. How a topic is scored is looked
+/// up in a rulebook, so no copy of the rules is stored here.
 #[derive(Drop)]
 pub struct TopicStandings {
     standings: IndexMap<Topic, Standing>,

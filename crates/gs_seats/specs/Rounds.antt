@@ -52,7 +52,7 @@ first_words plan p = new_seeded (listed_words plan p) plan.seed p
 abbrev pub is_dial : PeerNo → PeerNo → Dial → Bool
 is_dial p q dial = same_peer dial.from p && same_peer dial.to q
 
--- says whether a score is the one that p's application gives q; its first one counts, and 0 where there is none
+-- says whether a score is one that p's application gives q; the first such score of the plan counts, or 0 where there is none
 abbrev pub is_about : PeerNo → PeerNo → App → Bool
 is_about p q app = same_peer app.peer p && same_peer app.about q
 

@@ -161,7 +161,7 @@ summaries_of_peer w plan x = flat_map
     (summary_block plan x.0)
     (map (summary_in w.rounds plan x.0 x.1.trace) (wanted_neighbours w plan x.0))
 
--- a text, or the line that there is nothing to report
+-- a text, or the line that says that there is nothing to report
 abbrev pub or_nothing : List ℕ → List ℕ
 or_nothing [] = codes "no neighbour scored below 0, and nothing came to nothing\n"
 or_nothing (byte ∷ text) = byte ∷ text

@@ -43,7 +43,7 @@ abbrev pub is_text : List ℕ → Bool
 is_text [] = false
 is_text (byte ∷ text) = true
 
--- the line that there is nothing to report, unless something was reported
+-- the line that says that there is nothing to report, unless something was reported
 abbrev pub line_unless : Bool → List ℕ
 line_unless true = []
 line_unless false = codes "no neighbour scored below 0, and nothing came to nothing\n"

@@ -46,7 +46,7 @@ struct Asked<'a> {
     form: Option<Form>,
 }
 
-/// Writes the scores of a run that are wanted, by peer, then by moment, then by neighbour. docs/FORMATS.md explains each
+/// Writes the scores of a run that are wanted, by peer, then by moment, then by neighbour. docs/OUTPUTS.md explains each
 /// field. Each score is the one after what the peer did at that moment. It buffers at most about 64 KiB of text, plus the
 /// text of one moment.
 ///
@@ -164,7 +164,8 @@ pub(crate) fn wanted_neighbours(
     Ok(list)
 }
 
-/// Writes the scores that a peer gives at each of its entries. The reader has seen none of these entries yet.
+/// Writes the scores that a peer gives at those of its entries at which scores are reported, if their rounds are wanted. The
+/// reader has seen none of these entries yet.
 fn write_entries<W: Write>(
     asked: &Asked<'_>,
     follower: &mut Follower<'_>,
@@ -198,7 +199,8 @@ fn see_next(follower: &mut Follower<'_>) -> Result<(), AllocError>
     Ok(())
 }
 
-/// Appends the scores at an entry. It is the newest one that the peer's reader has seen.
+/// Appends the scores at an entry, if scores are reported then and its round is wanted. The entry is the newest one that the
+/// peer's reader has seen.
 fn push_entry(
     asked: &Asked<'_>,
     out: &mut Vec<u8>,

@@ -26,7 +26,7 @@ use gs_trace::{TraceFault, push_code, write_full, write_page};
 use std::alloc::{AllocError, Global};
 use std::io::Write;
 
-/// Writes a summary of the scores of a run that are wanted, by peer and then by neighbour. docs/FORMATS.md explains each
+/// Writes a summary of the scores of a run that are wanted, by peer and then by neighbour. docs/OUTPUTS.md explains each
 /// line. For each neighbour, the summary states when it scored below 0 and below each threshold. It states the lowest score
 /// and its cause, and how much of what the neighbour sent or promised had no effect. The form in `wanted` does not matter.
 /// It buffers at most about 64 KiB of text, plus the text of one peer.
@@ -55,7 +55,7 @@ pub fn write_summary<W: Write>(
     Ok(())
 }
 
-/// Appends the line that there is nothing to report, unless something was reported.
+/// Appends the line that says that there is nothing to report, unless something was reported.
 fn push_line_unless(is_any: bool, out: &mut Vec<u8>) -> Result<(), AllocError>
     ensures { OnOk result (out.new.items ≡ out.old.items ++ line_unless is_any) }
 {

@@ -1,4 +1,4 @@
--- What a writer has more after a text was written to it piece by piece.
+-- What the writing of a text, piece by piece, adds to a writer.
 use Rattle.std.specs.Prelude.{ℕ, List, take, Option}
 use Rattle.std.specs.Io.KnownBytes.{Appends}
 

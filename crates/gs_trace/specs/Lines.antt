@@ -119,7 +119,7 @@ abbrev pub dial_text : List (List ℕ) → Dial → List ℕ
 dial_text names d =
     codes "{\"from\":" ++ peer_text names d.from ++ codes ",\"to\":" ++ peer_text names d.to ++ codes "}"
 
--- the first line: the names of the peers by their numbers, the length and number of the rounds, and the dials
+-- the first line: the names of the peers by their numbers, the length of a round, the last round, and the dials
 abbrev pub head_text : Plan → List ℕ
 head_text plan =
     codes "{\"peers\":" ++ list_text quoted (names_of plan) ++ codes ",\"round_ms\":" ++ decimal plan.round_ms

@@ -1,5 +1,4 @@
--- The traces and the refused lines that a report has. Also, what must hold for a plan and its report so that a text says
--- everything about both.
+-- The traces and the refused lines that a report has. Also, what `a_trace_tells_all` requires of a plan and its report.
 use Rattle.std.specs.Prelude.{if◌then◌else◌, List, [], ◌∷◌, map}
 use Rattle.std.specs.List.{flat_map}
 use Rattle.gs_base.specs.declared.names.PeerNo.{PeerNo}

@@ -1,4 +1,4 @@
-//! The first line of a trace: the names of the peers, the length and number of the rounds, and the dials.
+//! The first line of a trace: the names of the peers, the length of a round, the last round, and the dials.
 ghost use Rattle.std.specs.Prelude.{◌≡◌, ◌++◌, OnOk};
 ghost use Rattle.gs_trace.specs.Texts.{list_text, names_of, quoted};
 ghost use Rattle.gs_trace.specs.Lines.{dial_text, head_text};

@@ -25,8 +25,8 @@ ghost use Rattle.gs_trace.specs.Texts.{names_of};
 ghost use Rattle.gs_trace.specs.Traces.{IsReportOf, refusals_in, traces};
 ghost use Rattle.gs_trace.specs.Wanted.{no_wish, wanted_text};
 
-/// The text of a run's trace says everything about the run. If two runs have the same text, their peers have the same names,
-/// and their rounds and dials are the same. The same is said about both, and each peer has the same trace in both.
+/// The text of a run's trace has each peer's whole trace. If two runs have the same text, their peers have the same names, and
+/// their rounds and dials are the same. The same is said about both, and each peer has the same trace in both.
 pub fn a_trace_tells_all()
     ensures names { (p q : PlanValue) (r s : ReportValue)
         → IsReportOf p r
@@ -81,7 +81,7 @@ pub fn each_identifier_is_answered_or_told()
         → length (answers p L q [] ids) + length (without_answers p L q [] ids) ≡ length ids }
 {}
 
-/// If nothing falls away when an RPC is heard, its parts must come next. If something falls away, nothing must come next.
+/// If nothing falls away when an RPC is heard, its parts must come next. If something falls away, the RPC owes no events.
 pub fn what_came_to_nothing_owes_no_parts()
     ensures follow { (p : Peer) (L : Entries) (at : MillisValue) (q : PeerNoValue) (rpc : RpcValue)
         → fell_away p L at (Heard q rpc) ≡ []

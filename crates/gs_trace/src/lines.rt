@@ -33,7 +33,7 @@ struct Walk<'a> {
     peers: &'a [(PeerNo, Finished)],
 }
 
-/// Writes the trace of a run as JSON Lines (docs/FORMATS.md has each field). The first line says who the peers are. Then
+/// Writes the trace of a run as JSON Lines (docs/OUTPUTS.md has each field). The first line says who the peers are. Then
 /// comes a line for each entry, by round, then by peer, then in order. The lines of the script that a peer refused in a
 /// round come after its entries. Of these lines it writes those that are wanted. At most about 64 KiB of lines wait to be
 /// written, and one line more. In each trace no entry may be earlier than the one before it.

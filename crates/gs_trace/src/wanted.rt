@@ -19,7 +19,8 @@ use gs_rules::{RefusedLine, StoredEntry};
 pub struct Wanted<'a> {
     /// Lines of the peer with this name.
     pub peer: Wish<'a>,
-    /// Lines that name this topic in the event, in an RPC that was sent, in a delivery or in a mark.
+    /// Lines that name this topic in the event, in an RPC that was sent, in a delivery or in a mark. Also, lines for refused
+    /// lines of the script that name it.
     pub topic: Wish<'a>,
     /// Lines of these rounds.
     pub rounds: Option<RoundSpan>,

@@ -166,7 +166,8 @@ impl FrameReader {
         }
     }
 
-    /// Marks the reader as failed, and returns the fault. From now on it holds nothing, and takes nothing.
+    /// Marks the reader as failed, and returns the fault. From now on it takes nothing, and contracts see it hold nothing.
+    /// The bytes that it held stay in memory until it is dropped.
     fn fail(&mut self, fault: WireFault) -> WireFault
         ensures same { result ≡ fault }
         ensures failed { self.new ≡ record { limit = self.old.limit; held = None } }

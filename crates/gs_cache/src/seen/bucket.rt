@@ -102,7 +102,8 @@ impl Bucket {
     }
 
     /// Takes a sighting into this bucket. If this bucket began the given time ago or more, the sighting gets a new bucket
-    /// instead. The new bucket is then the newer one, and this one the older one. What the older one held no longer counts.
+    /// instead. The new bucket is then the newer one, and this one the older one. The bucket that was the older one before
+    /// is dropped, since what it held no longer counts.
     ///
     /// # Errors
     /// `AllocError` if memory runs out. Nothing is changed then.

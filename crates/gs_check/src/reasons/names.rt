@@ -1,4 +1,4 @@
-//! Names that nothing has, and values that repeat an earlier one.
+//! Names that may not stand where they do, and values that repeat an earlier one.
 use crate::shown::{Quoted, Ticked};
 use gs_scenario::NameKind;
 use std::alloc::{AllocError, Global};
@@ -8,7 +8,8 @@ use toml::{Table, Value};
 /// What is wrong with a peer that is no neighbour.
 const NO_DIAL: &str = "that peer is no neighbour, since no dial joins the two";
 
-/// Says that nothing has the name that stands at a place of these bytes.
+/// Says why the name at a place of these bytes may not stand there. Either no topic or peer has it, or the peer that has it is
+/// no neighbour.
 pub fn unknown_name(
     alloc: Global,
     bytes: &[u8],

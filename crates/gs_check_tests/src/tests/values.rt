@@ -277,7 +277,7 @@ pub static VALUES: [Case; 41] = [
     ),
 ];
 
-/// Names that nothing has, and values that repeat an earlier one.
+/// Names that no peer and no topic has, and values that repeat an earlier one.
 pub static NAMES: [Case; 15] = [
     (
         "a dial to a peer that is not there",

@@ -18,8 +18,8 @@ fn short(alloc: Global) -> Narrow {
     }
 }
 
-/// Says whether this line reports a fault of a run of the scenario. It also reports the fault to a short writer, and ignores
-/// what that has.
+/// Says whether this line reports a fault of a run of the scenario, and whether a short writer gets the line's first ten
+/// bytes.
 fn tells(alloc: Global, fault: NetFault, line: &str) -> bool {
     let Ok(plan) = read_plan(alloc, SCENARIO) else {
         return false;

@@ -77,7 +77,8 @@ fn again(id: MsgId, is_near: bool) -> Outcome
     Outcome::Dropped
 }
 
-/// Says whether a neighbour is in the mesh of a named topic, passes on what was seen a moment ago, and did not before.
+/// Says whether a neighbour is in a topic's mesh, passes on what was seen a moment ago, and had not passed it on since.
+/// Where none is named, the topic is the empty one.
 fn is_near(
     known: &Known,
     from: PeerNo,

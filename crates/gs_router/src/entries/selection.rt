@@ -1,4 +1,4 @@
-//! Which neighbours may be sent to, and which may be grafted.
+//! Which neighbours may be sent something, and which may be grafted.
 ghost use Rattle.std.specs.Prelude.{◌≡◌, ◌&&◌, IfOk, filter};
 ghost use Rattle.gs_rules.specs.Peers.{is_explicit, links_of};
 ghost use Rattle.gs_rules.specs.Tables.{Entries, up};
@@ -17,7 +17,7 @@ use crate::peer_set::PeerSet;
 use gs_base::{Millis, PeerNo, Topic};
 use std::alloc::AllocError;
 
-// ---- who may be sent to
+// ---- which neighbours may be sent something
 
 /// Returns the neighbours that are up, ascending by number.
 pub fn up_neighbours(known: &Known) -> Result<Vec<PeerNo>, AllocError>

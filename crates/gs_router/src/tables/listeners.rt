@@ -54,7 +54,8 @@ impl Listeners {
         }
     }
 
-    /// Notes what a neighbour says about a topic (`Sub`). A change that does not say which counts as leaving the topic.
+    /// Notes what a neighbour says about a topic (`Sub`). A change that says neither that the neighbour subscribes nor
+    /// that it leaves counts as leaving the topic.
     ///
     /// # Errors
     /// `AllocError` if memory runs out.
