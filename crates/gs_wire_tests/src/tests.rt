@@ -1,175 +1,90 @@
 //! Bodies of RPCs and their frames, written by hand, and what spells no RPC.
 mod gathered;
-mod gathered_rpcs;
+mod gathering;
 mod joining;
 mod proto;
+mod said;
 mod sizes;
 mod streams;
 
+use crate::tests::proto::{BODIES, MALFORMED};
+use crate::tests::said::is_read_and_written;
+use crate::tests::sizes::published;
 use bytes::Bytes;
-use gs_base::{Control, Graft, Message, Rpc, Seq, SubOpt, Topic};
+use gs_base::{Rpc, Shared, Topic};
 use gs_wire::{
-    WireFault, a_body_spells_its_rpc, a_graft_fits_a_frame, a_joined_body_is_no_longer,
+    WireFault, WrittenRpc, a_body_spells_its_rpc, a_graft_fits_a_frame, a_joined_body_is_no_longer,
     a_message_by_itself_is_no_longer, a_prune_fits_a_frame, a_reader_holds_the_unread_end,
     a_request_fits_a_frame, a_stream_is_one, a_stream_may_be_cut_anywhere,
     a_written_frame_is_read_back, an_offer_fits_a_frame, bodies_in_a_row_spell_the_joined_rpc,
     bytes_spell_one_list_of_records, bytes_spell_one_rpc, decode, encode, encode_frame,
-    every_list_of_bytes_is_a_stream, no_frame_begins_another, publish_len,
-    rpcs_are_joined_in_any_grouping, the_written_varint_is_shortest, what_was_read_fits_a_frame,
+    every_list_of_bytes_is_a_stream, no_frame_begins_another, rpcs_are_joined_in_any_grouping,
+    the_written_varint_is_shortest, what_was_read_fits_a_frame,
     what_was_read_is_no_longer_when_written,
 };
 use std::alloc::{AllocError, Global};
 
-fn topic(alloc: Global, name: &[u8]) -> Result<Option<Topic>, AllocError> {
-    Ok(Some(Topic(Bytes::copy_from_slice(alloc, name)?)))
-}
-
-fn subscription(alloc: Global, subscribe: Option<bool>, name: &[u8]) -> Result<Rpc, AllocError> {
-    let mut rpc = Rpc::empty(alloc);
-    rpc.subs.push(SubOpt {
-        subscribe,
-        topic: topic(alloc, name)?,
-    })?;
-    Ok(rpc)
-}
-
-fn publication(alloc: Global, name: &[u8], payload: Bytes) -> Result<Rpc, AllocError> {
-    let mut rpc = Rpc::empty(alloc);
-    rpc.publish.push(Message {
-        origin: None,
-        payload: Some(payload),
-        seqno: None,
-        topic: topic(alloc, name)?,
-        signature: None,
-        key: None,
-    })?;
-    Ok(rpc)
-}
-
-/// Says whether the body is read as the RPC, and the RPC is written as the frame.
-fn is_read_and_written(alloc: Global, body: &[u8], rpc: &Rpc, frame: &[u8]) -> bool {
-    let mut written = Vec::new(alloc);
-    match decode(alloc, body) {
-        Ok(read) => {
-            read == *rpc && encode_frame(&read, &mut written).is_ok() && written.as_slice() == frame
-        }
-        Err(_) => false,
+#[test]
+fn bodies_are_read_and_written(rt: HostRuntime) {
+    for (name, body, says, frame) in &BODIES {
+        assert!(rt;
+            matches!(is_read_and_written(rt.alloc(), body, says, frame), Ok(true)),
+            "{name}"
+        );
     }
 }
 
-/// Whether the body is refused as no RPC.
-fn is_malformed(alloc: Global, body: &[u8]) -> bool {
-    decode(alloc, body).is_err_and(|fault| fault == WireFault::Malformed)
-}
-
-#[test]
-fn frames_are_read_and_written(rt: HostRuntime) -> Result<(), AllocError> {
-    let alloc = rt.alloc();
-    let subscribe = b"\x07\x0a\x05\x08\x01\x12\x01\x61";
-    let on_a = subscription(alloc, Some(true), b"a")?;
-    assert!(rt; is_read_and_written(alloc, &subscribe[1..], &on_a, subscribe));
-    let publish = b"\x0a\x12\x08\x12\x03\x61\x62\x63\x22\x01\x61";
-    let abc = publication(alloc, b"a", Bytes::copy_from_slice(alloc, b"abc")?)?;
-    assert!(rt; is_read_and_written(alloc, &publish[1..], &abc, publish));
-    assert!(rt; is_read_and_written(alloc, b"", &Rpc::empty(alloc), b"\x00"));
-    Ok(())
-}
-
-fn with_control(alloc: Global, control: Control) -> Rpc {
-    Rpc {
-        subs: Seq::new(alloc),
-        publish: Seq::new(alloc),
-        control: Some(control),
-    }
-}
-
-#[test]
-fn control_records_are_merged(rt: HostRuntime) -> Result<(), AllocError> {
-    let alloc = rt.alloc();
-    let body = b"\x78\x01\x1a\x05\x1a\x03\x0a\x01\x61\x1a\x05\x1a\x03\x0a\x01\x62";
-    let frame = b"\x0c\x1a\x0a\x1a\x03\x0a\x01\x61\x1a\x03\x0a\x01\x62";
-    let mut control = Control::empty(alloc);
-    control.graft.push(Graft {
-        topic: topic(alloc, b"a")?,
-    })?;
-    control.graft.push(Graft {
-        topic: topic(alloc, b"b")?,
-    })?;
-    assert!(rt; is_read_and_written(alloc, body, &with_control(alloc, control), frame));
-    let empty = with_control(alloc, Control::empty(alloc));
-    assert!(rt; is_read_and_written(alloc, b"\x1a\x00", &empty, b"\x02\x1a\x00"));
-    assert!(rt; is_malformed(alloc, b"\x1a\x03\x1a\x02\x0a\x1a\x02\x01\x61"));
-    Ok(())
-}
-
-/// Longer varints, unknown fields, known ones of another wire type, and repeated scalars.
-#[test]
-fn what_producers_may_write_is_read(rt: HostRuntime) -> Result<(), AllocError> {
-    let alloc = rt.alloc();
-    let frame = b"\x07\x0a\x05\x08\x01\x12\x01\x61";
-    let on_a = subscription(alloc, Some(true), b"a")?;
-    let longer = b"\x8a\x80\x00\x86\x00\x08\x81\x00\x12\x01\x61";
-    assert!(rt; is_read_and_written(alloc, longer, &on_a, frame));
-    let unknown = b"\x78\x01\x0a\x07\x08\x01\x12\x01\x61\x18\x05\x0d\x01\x02\x03\x04";
-    assert!(rt; is_read_and_written(alloc, unknown, &on_a, frame));
-    let other_type = b"\x0a\x08\x08\x01\x12\x01\x61\x0a\x01\x62\x08\x05";
-    assert!(rt; is_read_and_written(alloc, other_type, &on_a, frame));
-    let repeated = b"\x0a\x0a\x08\x00\x12\x01\x62\x12\x01\x61\x08\x02";
-    assert!(rt; is_read_and_written(alloc, repeated, &on_a, frame));
-    Ok(())
-}
-
-/// Field 0, groups, unknown wire types, truncated records, and varints of more than 64 bits.
 #[test]
 fn what_spells_no_rpc_is_malformed(rt: HostRuntime) {
-    let alloc = rt.alloc();
-    assert!(rt; is_malformed(alloc, b"\x00\x00"));
-    assert!(rt; is_malformed(alloc, b"\x0b"));
-    assert!(rt; is_malformed(alloc, b"\x0b\x0c"));
-    assert!(rt; is_malformed(alloc, b"\x0f"));
-    assert!(rt; is_malformed(alloc, b"\x0a\x05\x08\x01\x12\x01"));
-    assert!(rt; is_malformed(alloc, b"\x0a\x01\x0a"));
-    assert!(rt; is_malformed(alloc, b"\x08\xff\xff\xff\xff\xff\xff\xff\xff\xff\x02"));
-    assert!(rt; is_malformed(alloc, b"\x08\x80\x80\x80\x80\x80\x80\x80\x80\x80\x80\x00"));
-}
-
-/// Returns what `publish_len` gives for a payload of this length, and how long its body and its frame are. It returns
-/// nothing where both are too long, and the buffers are as they were.
-fn lengths(alloc: Global, len: usize) -> Result<Option<(usize, usize, usize)>, AllocError> {
-    let payload = vec![in alloc; 7u8; len]?;
-    let named = Topic(Bytes::copy_from_slice(alloc, b"t")?);
-    let counted = publish_len(&named, &payload);
-    let rpc = publication(alloc, b"t", Bytes::from_vec(payload)?)?;
-    let mut body = Vec::new(alloc);
-    let mut frame = Vec::new(alloc);
-    let faults = (encode(&rpc, &mut body), encode_frame(&rpc, &mut frame));
-    let too_long = faults == (Err(WireFault::TooLong), Err(WireFault::TooLong));
-    if too_long && body.is_empty() && frame.is_empty() {
-        return Ok(None);
+    for (name, body) in &MALFORMED {
+        let fault = decode(rt.alloc(), body).err();
+        assert!(rt; matches!(fault, Some(WireFault::Malformed)), "{name}");
     }
-    Ok(Some((counted, body.len(), frame.len())))
 }
 
-/// A payload has eleven bytes of records round it here, and a length of that size takes three.
-#[test]
-fn a_body_may_have_a_mebibyte(rt: HostRuntime) -> Result<(), AllocError> {
-    let longest = lengths(rt.alloc(), 1_048_565)?;
-    assert_eq!(rt; longest, Some((1_048_576, 1_048_576, 1_048_579)));
-    assert_eq!(rt; lengths(rt.alloc(), 1_048_566)?, None);
-    Ok(())
+/// Whether no way to write the RPC takes it, since its body is too long. Then nothing is written.
+fn is_too_long(alloc: Global, rpc: &Shared<Rpc>) -> bool {
+    let mut written = Vec::new(alloc);
+    let body = encode(rpc.get(), &mut written);
+    let frame = encode_frame(rpc.get(), &mut written);
+    matches!(
+        (body, frame, WrittenRpc::new(alloc, rpc).err()),
+        (
+            Err(WireFault::TooLong),
+            Err(WireFault::TooLong),
+            Some(WireFault::TooLong)
+        )
+    ) && written.is_empty()
 }
 
+/// Whether a payload of this length is too long.
+fn is_refused(alloc: Global, len: usize) -> Result<bool, WireFault> {
+    let rpc = Shared::new(alloc, published(alloc, len)?)?;
+    Ok(is_too_long(alloc, &rpc))
+}
+
+/// A payload has eleven bytes of records round it here. `sizes.rt` and `gathered.rt` have the longest that is taken.
 #[test]
-fn what_is_written_goes_to_the_end(rt: HostRuntime) -> Result<(), AllocError> {
-    let alloc = rt.alloc();
+fn a_body_may_have_a_mebibyte(rt: HostRuntime) {
+    assert!(rt; matches!(is_refused(rt.alloc(), 1_048_566), Ok(true)));
+}
+
+/// Writes the body of an RPC that leaves the topic `a`.
+fn write_leaving(alloc: Global, buffer: &mut Vec<u8>) -> Result<(), WireFault> {
+    let rpc = Rpc::announcement(alloc, false, &Topic(Bytes::from_static(b"a")))?;
+    encode(&rpc, buffer)
+}
+
+/// Whether that is written at the end of what the buffer has.
+fn goes_to_the_end(alloc: Global) -> Result<bool, WireFault> {
     let mut buffer = Vec::from_slice(alloc, b"kept")?;
-    let rpc = subscription(alloc, Some(false), b"a")?;
-    assert!(rt; encode(&rpc, &mut buffer).is_ok());
-    assert_eq!(rt;
-        buffer.as_slice(),
-        b"kept\x0a\x05\x08\x00\x12\x01\x61".as_slice()
-    );
-    Ok(())
+    write_leaving(alloc, &mut buffer)?;
+    Ok(buffer.as_slice() == b"kept\x0a\x05\x08\x00\x12\x01\x61".as_slice())
+}
+
+#[test]
+fn what_is_written_goes_to_the_end(rt: HostRuntime) {
+    assert!(rt; matches!(goes_to_the_end(rt.alloc()), Ok(true)));
 }
 
 static TEXTS: [(WireFault, &str); 4] = [
@@ -179,13 +94,20 @@ static TEXTS: [(WireFault, &str); 4] = [
     (WireFault::NoMemory, "there was no memory"),
 ];
 
+/// Whether the fault is shown as this text.
+fn is_shown(alloc: Global, fault: WireFault, text: &str) -> Result<bool, AllocError> {
+    let shown = format!(in alloc; "{fault}")?;
+    Ok(shown.as_str() == text)
+}
+
 #[test]
-fn each_fault_has_its_text(rt: HostRuntime) -> Result<(), AllocError> {
+fn each_fault_has_its_text(rt: HostRuntime) {
     for (fault, text) in &TEXTS {
-        let shown = format!(in rt.alloc(); "{fault}")?;
-        assert_eq!(rt; shown.as_str(), *text);
+        assert!(rt;
+            matches!(is_shown(rt.alloc(), *fault, text), Ok(true)),
+            "{text}"
+        );
     }
-    Ok(())
 }
 
 /// The laws take nothing and give nothing, so the test only calls them.

@@ -1,7 +1,5 @@
 //! Scenarios, and what each of them gives.
-
-/// A text of a scenario, the text instead of it, and what that gives.
-pub type Case = (&'static str, &'static str, &'static str);
+use crate::tests::changes::Case;
 
 /// Two peers and a message from one to the other.
 pub const TWO_PEERS: &str = "\
@@ -56,9 +54,8 @@ name = \"a\"
 name = \"b\"
 ";
 
-/// What an edit of one place of that scenario gives.
-pub static EDITS: [Case; 70] = [
-    // The text as a whole.
+/// Edits of that scenario, and what each gives. Here the text as a whole is refused.
+pub static TEXTS: [Case; 6] = [
     ("rounds = 10\n", "rounds = 10\nrounds = 10\n", "26"),
     ("seed = 1\n", "seed = 9223372036854775808\n", "26"),
     ("seed = 1\n", "seed = -99999999999999999999\n", "26"),
@@ -69,7 +66,10 @@ pub static EDITS: [Case; 70] = [
         "name = \"news\"\nname = \"news\"\n",
         "26",
     ),
-    // Unknown keys come first in their table, and the first of them by bytes.
+];
+
+/// Edits that make a key unknown. Unknown keys come first in their table, and the first of them by bytes.
+pub static UNKNOWN: [Case; 14] = [
     ("round_ms", "speed = 1\nround_ms", "27 speed"),
     ("round_ms = 100\n", "speed = 1\n", "27 speed"),
     (
@@ -100,7 +100,10 @@ pub static EDITS: [Case; 70] = [
         "27 peer[0].word",
     ),
     ("from = \"a\"\n", "via = \"a\"\n", "27 dial[0].via"),
-    // Then each key in its order.
+];
+
+/// Edits of keys of the top table, which are looked at in their order after that.
+pub static KEYS: [Case; 8] = [
     ("seed = 1\n", "", "28 seed"),
     ("rounds = 10\nworkers = 2\n", "rounds = 0\n", "29 rounds"),
     ("rounds = 10\nworkers = 2\n", "workers = 0\n", "28 rounds"),
@@ -113,7 +116,10 @@ pub static EDITS: [Case; 70] = [
         "29 capacity",
     ),
     ("seed = 1\n", "seed = 9223372036854775807\n", "a plan"),
-    // Names.
+];
+
+/// Edits of names.
+pub static NAMES: [Case; 7] = [
     ("name = \"news\"\n", "", "28 topic[0].name"),
     ("name = \"news\"\n", "name = \"News\"\n", "29 topic[0].name"),
     ("name = \"news\"\n", "name = \"\"\n", "29 topic[0].name"),
@@ -133,7 +139,10 @@ pub static EDITS: [Case; 70] = [
         "name = \"abcdefghijklmnopqrstuvwxyz-_0123\"",
         "30 dial[0].to",
     ),
-    // Dials.
+];
+
+/// Edits of dials.
+pub static DIALS: [Case; 9] = [
     ("to = \"b\"", "to = \"c\"", "30 dial[0].to"),
     ("to = \"b\"", "to = \"C\"", "29 dial[0].to"),
     ("to = \"b\"", "to = \"a\"", "29 dial[0].to"),
@@ -159,7 +168,10 @@ pub static EDITS: [Case; 70] = [
         "28 dial[1].to",
     ),
     ("[[dial]]\nfrom = \"a\"\nto = \"b\"\n", "", "a plan"),
-    // What a line says comes before its unknown keys, and those before its other keys.
+];
+
+/// Edits of the first line of the script. What a line says comes before its unknown keys, and those before its other keys.
+pub static SUBSCRIPTIONS: [Case; 13] = [
     ("what = \"subscribe\"\n", "colour = 1\n", "28 do[0].what"),
     (
         "what = \"subscribe\"\n",
@@ -221,6 +233,10 @@ pub static EDITS: [Case; 70] = [
         "what = \"unsubscribe\"\ntopic = \"blog\"\n",
         "30 do[0].topic",
     ),
+];
+
+/// Edits of the last line, which publishes.
+pub static PUBLICATIONS: [Case; 13] = [
     ("what = \"publish\"\n", "what = \"raw\"\n", "27 do[2].topic"),
     (
         "what = \"publish\"\n",
@@ -296,27 +312,59 @@ pub static OTHER_LISTS: [Case; 12] = [
     ),
 ];
 
-/// The keys of the top table, and a value of each.
-pub static TOP: [(&str, &str); 12] = [
-    ("round_ms", "100"),
-    ("rounds", "10"),
-    ("workers", "2"),
-    ("capacity", "8"),
-    ("seed", "1"),
-    ("params", "{}"),
-    ("topic", "[{ name = 'news' }]"),
-    ("peer", "[{ name = 'a' }]"),
-    ("dial", "[]"),
-    ("app", "[]"),
-    ("explicit", "[]"),
-    ("do", "[]"),
+/// A value of each key of the top table. No key stands in a line before its own.
+pub const TOP_TABLE: &str = "\
+round_ms = 100
+rounds = 10
+workers = 2
+capacity = 8
+seed = 1
+params = {}
+topic = [{ name = 'news' }]
+peer = [{ name = 'a' }]
+dial = []
+app = []
+explicit = []
+do = []
+";
+
+/// What that table gives without one of its keys: five may be missing.
+pub static MISSING: [Case; 12] = [
+    ("round_ms = 100\n", "", "28 round_ms"),
+    ("rounds = 10\n", "", "28 rounds"),
+    ("workers = 2\n", "", "28 workers"),
+    ("capacity = 8\n", "", "28 capacity"),
+    ("seed = 1\n", "", "28 seed"),
+    ("params = {}\n", "", "a plan"),
+    ("topic = [{ name = 'news' }]\n", "", "28 topic"),
+    ("peer = [{ name = 'a' }]\n", "", "28 peer"),
+    ("dial = []\n", "", "a plan"),
+    ("app = []\n", "", "a plan"),
+    ("explicit = []\n", "", "a plan"),
+    ("do = []\n", "", "a plan"),
 ];
 
-/// Values that none of them may have.
+/// The keys of the top table, and the refusal of a value of a wrong type.
+pub static TOP: [(&str, &str); 12] = [
+    ("round_ms", "29 round_ms"),
+    ("rounds", "29 rounds"),
+    ("workers", "29 workers"),
+    ("capacity", "29 capacity"),
+    ("seed", "29 seed"),
+    ("params", "29 params"),
+    ("topic", "29 topic"),
+    ("peer", "29 peer"),
+    ("dial", "29 dial"),
+    ("app", "29 app"),
+    ("explicit", "29 explicit"),
+    ("do", "29 do"),
+];
+
+/// Values of types that no key of the top table takes.
 pub static WRONG: [&str; 6] = ["-1", "1.0", "nan", "true", "'1'", "1979-05-27"];
 
 /// Values of a key, and what they give.
-pub static BOUNDS: [(&str, &str, &str); 28] = [
+pub static BOUNDS: [Case; 28] = [
     ("round_ms", "0", "29 round_ms"),
     ("round_ms", "1", "a plan"),
     ("round_ms", "1000", "a plan"),
@@ -346,17 +394,3 @@ pub static BOUNDS: [(&str, &str, &str); 28] = [
     ("do", "[[]]", "29 do[0]"),
     ("do", "[{}]", "28 do[0].what"),
 ];
-
-/// How many numbers stand in a list, and what that gives.
-pub static LENGTHS: [(&str, usize, &str); 7] = [
-    ("topic", 32, "29 topic[0]"),
-    ("topic", 33, "29 topic"),
-    ("peer", 64, "29 peer[0]"),
-    ("peer", 65, "29 peer"),
-    ("dial", 1000, "29 dial[0]"),
-    ("app", 1000, "29 app[0]"),
-    ("explicit", 1000, "29 explicit[0]"),
-];
-
-/// How deep lists lie in lists, and what that gives as a seed.
-pub static DEPTHS: [(usize, &str); 2] = [(40, "29 seed"), (20_000, "26")];

@@ -1,33 +1,12 @@
-//! Peering agreements.
-use crate::tests::cases::{Case, TWO_PEERS};
-use crate::tests::keys::{IN_APP, TABLES};
-use crate::tests::{check_edits, outcome_after};
-use std::alloc::{AllocError, Global};
-use std::process::Abort;
-
-/// What an agreement's table holds, and what it gives: of the peers `a`, `b` and `c`, a dial joins only `a` and `b`.
-type Agreement = (&'static str, &'static str);
-
-/// What an agreement's table gives that holds this.
-fn given(alloc: Global, keys: &str) -> Result<String, AllocError> {
-    let table = format!(in alloc; "[[explicit]]\n{keys}")?;
-    outcome_after(alloc, IN_APP, table.as_str())
-}
-
-/// Checks that each agreement's table gives what it must.
-fn check_agreements<T: AllocGlobal + Abort>(
-    rt: &T,
-    agreements: &[Agreement],
-) -> Result<(), AllocError> {
-    for (keys, want) in agreements {
-        assert_eq!(rt; given(rt.alloc(), keys)?.as_str(), *want, "{keys}");
-    }
-    Ok(())
-}
+//! Peering agreements: of the peers `a`, `b` and `c`, a dial joins only `a` and `b`.
+use crate::tests::cases::TWO_PEERS;
+use crate::tests::changes::{Case, Change, Table, check_cases, check_tables};
+use crate::tests::keys::TABLES;
+use std::alloc::AllocError;
 
 #[test]
 fn an_agreement_is_with_a_neighbour(rt: HostRuntime) -> Result<(), AllocError> {
-    static AGREEMENTS: [Agreement; 17] = [
+    static AGREEMENTS: [Table; 17] = [
         ("peer='a'\nabout='b'", "a plan"),
         ("peer='b'\nabout='a'", "a plan"),
         ("about='b'\npeer='a'", "a plan"),
@@ -46,14 +25,14 @@ fn an_agreement_is_with_a_neighbour(rt: HostRuntime) -> Result<(), AllocError> {
         ("peer='c'\nabout='a'", "30 explicit[0].about"),
         ("peer='c'\nabout='c'", "30 explicit[0].about"),
     ];
-    check_agreements(&rt, &AGREEMENTS)
+    check_tables(&rt, &Change::Line("[[explicit]]\n"), &AGREEMENTS)
 }
 
 #[test]
 fn an_agreement_has_two_keys_which_are_looked_at_in_order(
     rt: HostRuntime,
 ) -> Result<(), AllocError> {
-    static AGREEMENTS: [Agreement; 9] = [
+    static AGREEMENTS: [Table; 9] = [
         ("value=5\npeer='d'", "27 explicit[0].value"),
         ("peer='a'\nabout='b'\nvalue=5", "27 explicit[0].value"),
         ("Peer='a'\npeer='d'\nAbout='b'", "27 explicit[0].About"),
@@ -64,12 +43,12 @@ fn an_agreement_has_two_keys_which_are_looked_at_in_order(
         ("peer='d'\nabout=1", "30 explicit[0].peer"),
         ("peer='d'", "30 explicit[0].peer"),
     ];
-    check_agreements(&rt, &AGREEMENTS)
+    check_tables(&rt, &Change::Line("[[explicit]]\n"), &AGREEMENTS)
 }
 
 #[test]
 fn an_agreement_stands_once(rt: HostRuntime) -> Result<(), AllocError> {
-    static AGREEMENTS: [Agreement; 9] = [
+    static AGREEMENTS: [Table; 9] = [
         (
             "peer='a'\nabout='b'\n[[explicit]]\npeer='b'\nabout='a'",
             "a plan",
@@ -107,7 +86,7 @@ fn an_agreement_stands_once(rt: HostRuntime) -> Result<(), AllocError> {
             "27 explicit[1].value",
         ),
     ];
-    check_agreements(&rt, &AGREEMENTS)
+    check_tables(&rt, &Change::Line("[[explicit]]\n"), &AGREEMENTS)
 }
 
 #[test]
@@ -159,7 +138,7 @@ fn agreements_are_walked_between_scores_and_the_script(rt: HostRuntime) -> Resul
             "1",
         ),
     ];
-    check_edits(&rt, TABLES, &EDITS)
+    check_cases(&rt, &Change::Edit(TABLES), &EDITS)
 }
 
 #[test]
@@ -187,5 +166,5 @@ fn the_list_of_agreements_is_looked_at_after_that_of_scores(
             "a plan",
         ),
     ];
-    check_edits(&rt, TWO_PEERS, &EDITS)
+    check_cases(&rt, &Change::Edit(TWO_PEERS), &EDITS)
 }

@@ -1,4 +1,5 @@
 //! The keys of parameters, topics, peers and scores, and what their values give.
+use crate::tests::changes::Case;
 
 /// A scenario that has something in each of its tables.
 pub const TABLES: &str = "\
@@ -81,6 +82,9 @@ const SIGNED_OF_TOPIC: Sort = Sort {
     below: "-1000000000001",
 };
 
+/// The highest number that those keys take.
+pub const HIGHEST: &str = "1000000000000";
+
 /// A key that takes numbers to 10^12, and what its lowest and its highest number give.
 pub type Range = (Sort, &'static str, &'static str, &'static str);
 
@@ -139,8 +143,8 @@ pub static RANGES: [Range; 49] = [
     (SIGNED_OF_TOPIC, "w4", "3", "3"),
 ];
 
-/// Lines of those tables, and what each gives.
-pub static LINES: [(&str, &str, &str); 38] = [
+/// Lines of parameters, and what each gives.
+pub static PARAMS: [Case; 13] = [
     (IN_PARAMS, "flood_publish = false", "a plan"),
     (IN_PARAMS, "flood_publish = true", "a plan"),
     (IN_PARAMS, "flood_publish = 1", "29 params.flood_publish"),
@@ -158,6 +162,10 @@ pub static LINES: [(&str, &str, &str); 38] = [
     (IN_PARAMS, "heartbeat_ms = 950", "29 params.heartbeat_ms"),
     (IN_PARAMS, "decay_ms = 99", "29 params.decay_ms"),
     (IN_PARAMS, "decay_ms = 101", "29 params.decay_ms"),
+];
+
+/// Lines of a topic, and what each gives.
+pub static TOPICS: [Case; 11] = [
     (IN_TOPIC, "d = 6", "27 topic[0].d"),
     (IN_TOPIC, "reject = []", "a plan"),
     (IN_TOPIC, "reject = ['00', 'fF', '', '616263']", "a plan"),
@@ -169,6 +177,10 @@ pub static LINES: [(&str, &str, &str); 38] = [
     (IN_TOPIC, "ignore = {}", "29 topic[0].ignore"),
     (IN_TOPIC, "ignore = ['00', '0']", "29 topic[0].ignore"),
     (IN_TOPIC, "ignore = [['00']]", "29 topic[0].ignore"),
+];
+
+/// Lines of a peer, and one of a score, and what each gives.
+pub static PEERS: [Case; 14] = [
     (IN_PEER, "address = '10.0.0.1'", "a plan"),
     (IN_PEER, "address = ''", "a plan"),
     (IN_PEER, "address = 'A b\\n'", "a plan"),
@@ -186,7 +198,7 @@ pub static LINES: [(&str, &str, &str); 38] = [
 ];
 
 /// Edits of that scenario, and what each gives.
-pub static APPS: [(&str, &str, &str); 21] = [
+pub static APPS: [Case; 21] = [
     ("peer = \"a\"\n", "", "28 app[0].peer"),
     ("peer = \"a\"\n", "peer = 1\n", "29 app[0].peer"),
     ("peer = \"a\"\n", "peer = \"A\"\n", "29 app[0].peer"),

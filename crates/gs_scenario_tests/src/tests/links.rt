@@ -1,29 +1,10 @@
-//! Lines of a script that are done to a neighbour's link.
-use crate::tests::keys::IN_APP;
-use crate::tests::{outcome_after, repeated};
-use std::alloc::{AllocError, Global};
-use std::process::Abort;
-
-/// What a line of the script holds, and what it gives: of the peers `a`, `b` and `c`, a dial joins only `a` and `b`.
-type Line = (&'static str, &'static str);
-
-/// What a line of the script gives that holds this.
-fn given(alloc: Global, line: &str) -> Result<String, AllocError> {
-    let table = format!(in alloc; "[[do]]\n{line}")?;
-    outcome_after(alloc, IN_APP, table.as_str())
-}
-
-/// Checks that each line of the script gives what it must.
-fn check_links<T: AllocGlobal + Abort>(rt: &T, lines: &[Line]) -> Result<(), AllocError> {
-    for (line, want) in lines {
-        assert_eq!(rt; given(rt.alloc(), line)?.as_str(), *want, "{line}");
-    }
-    Ok(())
-}
+//! Lines of a script that are done to a neighbour's link: of the peers `a`, `b` and `c`, a dial joins only `a` and `b`.
+use crate::tests::changes::{Change, Table, check_tables};
+use std::alloc::AllocError;
 
 #[test]
 fn raw_bytes_go_to_a_neighbour(rt: HostRuntime) -> Result<(), AllocError> {
-    static LINES: [Line; 19] = [
+    static LINES: [Table; 19] = [
         ("what='raw'\nat=0\npeer='a'\nto='b'\nhex=''", "a plan"),
         ("what='raw'\nat=10\npeer='b'\nto='a'\nhex='aF09'", "a plan"),
         ("what='raw'\npeer='a'\nto='b'\nhex=''", "28 do[0].at"),
@@ -56,12 +37,12 @@ fn raw_bytes_go_to_a_neighbour(rt: HostRuntime) -> Result<(), AllocError> {
             "29 do[0].hex",
         ),
     ];
-    check_links(&rt, &LINES)
+    check_tables(&rt, &Change::Line("[[do]]\n"), &LINES)
 }
 
 #[test]
 fn a_peer_hangs_up_on_a_neighbour(rt: HostRuntime) -> Result<(), AllocError> {
-    static LINES: [Line; 12] = [
+    static LINES: [Table; 12] = [
         ("what='hang_up'\nat=0\npeer='a'\nto='b'", "a plan"),
         ("what='hang_up'\nat=10\npeer='b'\nto='a'", "a plan"),
         ("what='hang_up'\npeer='a'\nto='b'", "28 do[0].at"),
@@ -75,12 +56,12 @@ fn a_peer_hangs_up_on_a_neighbour(rt: HostRuntime) -> Result<(), AllocError> {
         ("what='hang_up'\nat=0\npeer='b'\nto='c'", "30 do[0].to"),
         ("what='hang_up'\nat=0\npeer='c'\nto='a'", "30 do[0].to"),
     ];
-    check_links(&rt, &LINES)
+    check_tables(&rt, &Change::Line("[[do]]\n"), &LINES)
 }
 
 #[test]
 fn a_line_has_only_the_keys_of_its_kind(rt: HostRuntime) -> Result<(), AllocError> {
-    static LINES: [Line; 9] = [
+    static LINES: [Table; 9] = [
         ("what='raw'\ntopic='news'", "27 do[0].topic"),
         (
             "what='raw'\ntopic='news'\ncolour=1\nColour=1",
@@ -109,12 +90,12 @@ fn a_line_has_only_the_keys_of_its_kind(rt: HostRuntime) -> Result<(), AllocErro
             "27 do[0].to",
         ),
     ];
-    check_links(&rt, &LINES)
+    check_tables(&rt, &Change::Line("[[do]]\n"), &LINES)
 }
 
 #[test]
 fn who_is_looked_at_before_what_is_sent(rt: HostRuntime) -> Result<(), AllocError> {
-    static LINES: [Line; 8] = [
+    static LINES: [Table; 8] = [
         ("at=11\npeer='d'\nto=1\nhex=1", "28 do[0].what"),
         (
             "what='Raw'\nat=11\npeer='d'\nto=1\nhex=1\ntopic=1",
@@ -130,20 +111,5 @@ fn who_is_looked_at_before_what_is_sent(rt: HostRuntime) -> Result<(), AllocErro
         ("what='raw'\nat=0\npeer='a'\nto=1\nhex=1", "29 do[0].to"),
         ("what='raw'\nat=0\npeer='a'\nto='c'", "30 do[0].to"),
     ];
-    check_links(&rt, &LINES)
-}
-
-/// What a line gives that puts `count` bytes on a link.
-fn given_of(alloc: Global, count: usize) -> Result<String, AllocError> {
-    let hex = repeated(alloc, "0f", count)?;
-    let line = format!(in alloc; "what='raw'\nat=0\npeer='a'\nto='b'\nhex='{hex}'")?;
-    given(alloc, line.as_str())
-}
-
-#[test]
-fn a_line_has_at_most_two_megabytes(rt: HostRuntime) -> Result<(), AllocError> {
-    let alloc = rt.alloc();
-    assert_eq!(rt; given_of(alloc, 2_097_152)?.as_str(), "a plan");
-    assert_eq!(rt; given_of(alloc, 2_097_153)?.as_str(), "29 do[0].hex");
-    Ok(())
+    check_tables(&rt, &Change::Line("[[do]]\n"), &LINES)
 }

@@ -1,7 +1,7 @@
 //! What is refused first.
-use crate::tests::cases::{Case, TWO_PEERS};
+use crate::tests::cases::TWO_PEERS;
+use crate::tests::changes::{Case, Change, check_cases};
 use crate::tests::keys::TABLES;
-use crate::tests::{check_edits, check_values};
 use std::alloc::AllocError;
 
 #[test]
@@ -34,7 +34,7 @@ fn changes_of_a_scenario_are_refused_with_number_and_place(
         ("seed = 1\n", "seed = 1\n[params]\nmcache_len = 2\n", "4"),
         ("hex = \"616263\"", "hex = \"6\"", "29 do[2].hex"),
     ];
-    check_edits(&rt, TWO_PEERS, &EDITS)
+    check_cases(&rt, &Change::Edit(TWO_PEERS), &EDITS)
 }
 
 #[test]
@@ -84,7 +84,7 @@ fn a_key_goes_through_all_its_checks_before_the_next(rt: HostRuntime) -> Result<
             "29 topic[0].reject",
         ),
     ];
-    check_edits(&rt, TABLES, &EDITS)
+    check_cases(&rt, &Change::Edit(TABLES), &EDITS)
 }
 
 #[test]
@@ -138,7 +138,7 @@ fn tables_and_lists_are_walked_in_the_order_of_the_top_keys(
             "29 do",
         ),
     ];
-    check_edits(&rt, TABLES, &EDITS)
+    check_cases(&rt, &Change::Edit(TABLES), &EDITS)
 }
 
 #[test]
@@ -158,7 +158,7 @@ fn an_element_that_is_no_table_is_refused_where_the_walk_reaches_it(
         ("app", "[]", "a plan"),
         ("do", "[{}, 1]", "28 do[0].what"),
     ];
-    check_values(&rt, &VALUES)
+    check_cases(&rt, &Change::Top, &VALUES)
 }
 
 #[test]
@@ -200,7 +200,7 @@ fn a_repeat_is_noticed_after_all_keys_of_its_element(rt: HostRuntime) -> Result<
             "31 dial[1]",
         ),
     ];
-    check_edits(&rt, TABLES, &EDITS)
+    check_cases(&rt, &Change::Edit(TABLES), &EDITS)
 }
 
 #[test]
@@ -255,7 +255,7 @@ fn the_heartbeat_and_the_decay_take_whole_rounds(rt: HostRuntime) -> Result<(), 
             "29 params.decay_ms",
         ),
     ];
-    check_edits(&rt, TWO_PEERS, &EDITS)
+    check_cases(&rt, &Change::Edit(TWO_PEERS), &EDITS)
 }
 
 #[test]
@@ -288,7 +288,7 @@ fn what_a_line_says_comes_before_its_unknown_keys(rt: HostRuntime) -> Result<(),
             "28 do[0].at",
         ),
     ];
-    check_edits(&rt, TWO_PEERS, &EDITS)
+    check_cases(&rt, &Change::Edit(TWO_PEERS), &EDITS)
 }
 
 #[test]
@@ -327,5 +327,5 @@ fn the_checks_run_over_all_topics_in_the_order_of_their_numbers(
             "4",
         ),
     ];
-    check_edits(&rt, TABLES, &EDITS)
+    check_cases(&rt, &Change::Edit(TABLES), &EDITS)
 }

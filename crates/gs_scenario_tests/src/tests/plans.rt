@@ -172,22 +172,23 @@ seen_ttl_ms: 120000, iwant_followup_ms: 3000, prune_backoff_s: 60, unsubscribe_b
 mcache_len: 5, mcache_gossip: 3, opportunistic_ticks: 60, opportunistic_peers: 2, \
 max_ihave: 10, max_ihave_ids: 5000, gossip_retransmission: 3 }, flood_publish: true";
 
+/// The plan of two peers, in which `DEFAULT_PARAMS` and `DEFAULT_TOPIC` stand for those texts.
+pub const PLAN_OF_TWO: &str = "\
+Plan { round_ms: 100, rounds: 10, workers: 2, capacity: 8, seed: 1, \
+params: Params { DEFAULT_PARAMS, \
+topics: Seq { items: [(Topic(b\"news\"), DEFAULT_TOPIC)] } }, \
+peers: Seq { items: [\
+PlannedPeer { name: Text { text: \"a\" }, address: Text { text: \"a\" }, words: Seq { items: [] } }, \
+PlannedPeer { name: Text { text: \"b\" }, address: Text { text: \"b\" }, words: Seq { items: [] } }] }, \
+dials: Seq { items: [Dial { from: PeerNo(0), to: PeerNo(1) }] }, apps: Seq { items: [] }, \
+explicit: Seq { items: [] }, script: Seq { items: [\
+Line { at: 0, peer: PeerNo(0), what: Subscribe(Topic(b\"news\")) }, \
+Line { at: 0, peer: PeerNo(1), what: Subscribe(Topic(b\"news\")) }, \
+Line { at: 2, peer: PeerNo(0), what: Publish(Topic(b\"news\"), b\"abc\") }] } }";
+
 /// Scenarios and their plans. `DEFAULT_PARAMS` and `DEFAULT_TOPIC` stand in them for those texts.
 pub static PLANS: [(&str, &str); 3] = [
-    (
-        TWO_PEERS,
-        "Plan { round_ms: 100, rounds: 10, workers: 2, capacity: 8, seed: 1, \
-        params: Params { DEFAULT_PARAMS, \
-        topics: Seq { items: [(Topic(b\"news\"), DEFAULT_TOPIC)] } }, \
-        peers: Seq { items: [\
-        PlannedPeer { name: Text { text: \"a\" }, address: Text { text: \"a\" }, words: Seq { items: [] } }, \
-        PlannedPeer { name: Text { text: \"b\" }, address: Text { text: \"b\" }, words: Seq { items: [] } }] }, \
-        dials: Seq { items: [Dial { from: PeerNo(0), to: PeerNo(1) }] }, apps: Seq { items: [] }, \
-        explicit: Seq { items: [] }, script: Seq { items: [\
-        Line { at: 0, peer: PeerNo(0), what: Subscribe(Topic(b\"news\")) }, \
-        Line { at: 0, peer: PeerNo(1), what: Subscribe(Topic(b\"news\")) }, \
-        Line { at: 2, peer: PeerNo(0), what: Publish(Topic(b\"news\"), b\"abc\") }] } }",
-    ),
+    (TWO_PEERS, PLAN_OF_TWO),
     (
         LEAST,
         "Plan { round_ms: 100, rounds: 1, workers: 1, capacity: 1, seed: 0, \
@@ -237,7 +238,7 @@ pub static PLANS: [(&str, &str); 3] = [
     ),
 ];
 
-/// Edits of the first of these, and what they change in its plan.
+/// Edits of the scenario of two peers, and what they change in its plan.
 pub static EDITED_PLANS: [(&str, &str, &str, &str); 6] = [
     ("616263", "4A4b", "b\"abc\"", "b\"JK\""),
     ("616263", "", "b\"abc\"", "b\"\""),

@@ -1,9 +1,9 @@
 //! The reasons of refusals.
+use crate::tests::changes::Case;
 use gs_scenario::TableKind;
 
-/// Edits of the scenario that says something in each table, and the refusals as they are written.
-pub static REASONS: [(&str, &str, &str); 53] = [
-    // What stands there.
+/// Edits of the scenario that says something in each table, and the refusals as they are written: what stands there.
+pub static FOUND: [Case; 8] = [
     (
         "workers = 2",
         "workers = 17",
@@ -44,7 +44,10 @@ pub static REASONS: [(&str, &str, &str); 53] = [
         "workers = {}",
         "Range(Text { text: \"workers\" }, Table, Number(1, 16))",
     ),
-    // What is wanted.
+];
+
+/// What is wanted in the top table and in parameters.
+pub static WANTED: [Case; 11] = [
     (
         "rounds = 10",
         "rounds = 0",
@@ -100,6 +103,10 @@ pub static REASONS: [(&str, &str, &str); 53] = [
         "round_ms = 300",
         "Range(Text { text: \"params.heartbeat_ms\" }, Default(1000), Multiple(300))",
     ),
+];
+
+/// What is wanted in elements of lists.
+pub static WANTED_IN_LISTS: [Case; 8] = [
     (
         "name = \"news\"",
         "name = \"News\"",
@@ -140,7 +147,10 @@ pub static REASONS: [(&str, &str, &str); 53] = [
         "value = 5\n[[do]]\nwhat = 'row'\n",
         "Range(Text { text: \"do[0].what\" }, Text(Text { text: \"row\" }), Verb)",
     ),
-    // Which name, and of what.
+];
+
+/// Which name is unknown, and of what.
+pub static NAMES: [Case; 11] = [
     (
         "to = \"b\"",
         "to = \"d\"",
@@ -196,7 +206,10 @@ pub static REASONS: [(&str, &str, &str); 53] = [
         "value = 5\n[[explicit]]\npeer = 'a'\nabout = 'a'\n",
         "UnknownName(Text { text: \"explicit[0].about\" }, Text { text: \"a\" }, Neighbour)",
     ),
-    // What repeats an earlier value.
+];
+
+/// What repeats an earlier value.
+pub static REPEATS: [Case; 2] = [
     (
         "value = 5\n",
         "value = 5\n[[app]]\npeer = 'a'\nabout = 'b'\nvalue = 6\n",
@@ -207,7 +220,10 @@ pub static REASONS: [(&str, &str, &str); 53] = [
         "value = 5\n[[explicit]]\npeer = 'a'\nabout = 'b'\n[[explicit]]\npeer = 'a'\nabout = 'b'\n",
         "Repeated(Text { text: \"explicit[1]\" })",
     ),
-    // Which table has no such key.
+];
+
+/// Which table has no such key.
+pub static UNKNOWN_KEYS: [Case; 11] = [
     (
         "seed = 1",
         "seed = 1\nspeed = 1",
@@ -263,7 +279,10 @@ pub static REASONS: [(&str, &str, &str); 53] = [
         "value = 5\n[[do]]\nwhat = 'hang_up'\nhex = ''\n",
         "UnknownKey(Text { text: \"do[0].hex\" }, HangUpLine)",
     ),
-    // Which parameter is what it may not be.
+];
+
+/// Which parameter is what it may not be.
+pub static PARAMETERS: [Case; 2] = [
     (
         "[params]",
         "[params]\nd_low = 7",
@@ -277,30 +296,89 @@ pub static REASONS: [(&str, &str, &str); 53] = [
 ];
 
 /// The keys that a table may have, in the order in which they are read.
-pub static KNOWN_KEYS: [(TableKind, &str); 11] = [
+pub static KNOWN_KEYS: [(TableKind, &[&str]); 11] = [
     (
         TableKind::Top,
-        "round_ms rounds workers capacity seed params topic peer dial app explicit do ",
+        &[
+            "round_ms", "rounds", "workers", "capacity", "seed", "params", "topic", "peer", "dial",
+            "app", "explicit", "do",
+        ],
     ),
     (
         TableKind::Params,
-        "d d_low d_high d_score d_out d_lazy gossip_threshold publish_threshold graylist_threshold \
-        opportunistic_threshold gossip_factor p7_decay w5 w6 w7 topic_cap decay_to_zero p6_threshold \
-        heartbeat_ms decay_ms fanout_ttl_ms seen_ttl_ms iwant_followup_ms prune_backoff_s \
-        unsubscribe_backoff_s mcache_len mcache_gossip opportunistic_ticks opportunistic_peers \
-        max_ihave max_ihave_ids gossip_retransmission flood_publish ",
+        &[
+            "d",
+            "d_low",
+            "d_high",
+            "d_score",
+            "d_out",
+            "d_lazy",
+            "gossip_threshold",
+            "publish_threshold",
+            "graylist_threshold",
+            "opportunistic_threshold",
+            "gossip_factor",
+            "p7_decay",
+            "w5",
+            "w6",
+            "w7",
+            "topic_cap",
+            "decay_to_zero",
+            "p6_threshold",
+            "heartbeat_ms",
+            "decay_ms",
+            "fanout_ttl_ms",
+            "seen_ttl_ms",
+            "iwant_followup_ms",
+            "prune_backoff_s",
+            "unsubscribe_backoff_s",
+            "mcache_len",
+            "mcache_gossip",
+            "opportunistic_ticks",
+            "opportunistic_peers",
+            "max_ihave",
+            "max_ihave_ids",
+            "gossip_retransmission",
+            "flood_publish",
+        ],
     ),
     (
         TableKind::Topic,
-        "name topic_weight w1 w2 w3 w3b w4 p2_decay p3_decay p3b_decay p4_decay p1_cap p2_cap p3_cap \
-        p3_threshold p1_quantum_ms p3_window_ms p3_activation_ms reject ignore ",
+        &[
+            "name",
+            "topic_weight",
+            "w1",
+            "w2",
+            "w3",
+            "w3b",
+            "w4",
+            "p2_decay",
+            "p3_decay",
+            "p3b_decay",
+            "p4_decay",
+            "p1_cap",
+            "p2_cap",
+            "p3_cap",
+            "p3_threshold",
+            "p1_quantum_ms",
+            "p3_window_ms",
+            "p3_activation_ms",
+            "reject",
+            "ignore",
+        ],
     ),
-    (TableKind::Peer, "name address words "),
-    (TableKind::Dial, "from to "),
-    (TableKind::App, "peer about value "),
-    (TableKind::Explicit, "peer about "),
-    (TableKind::SubscriptionLine, "what at peer topic "),
-    (TableKind::PublishLine, "what at peer topic hex "),
-    (TableKind::RawLine, "what at peer to hex "),
-    (TableKind::HangUpLine, "what at peer to "),
+    (TableKind::Peer, &["name", "address", "words"]),
+    (TableKind::Dial, &["from", "to"]),
+    (TableKind::App, &["peer", "about", "value"]),
+    (TableKind::Explicit, &["peer", "about"]),
+    (
+        TableKind::SubscriptionLine,
+        &["what", "at", "peer", "topic"],
+    ),
+    (
+        TableKind::PublishLine,
+        &["what", "at", "peer", "topic", "hex"],
+    ),
+    (TableKind::RawLine, &["what", "at", "peer", "to", "hex"]),
+    (TableKind::HangUpLine, &["what", "at", "peer", "to"]),
 ];

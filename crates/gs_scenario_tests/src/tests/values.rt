@@ -1,10 +1,7 @@
 //! What keys, names and values may be.
-use crate::tests::cases::Case;
+use crate::tests::changes::{Case, Change, Shown, check_cases, check_shown};
 use crate::tests::keys::{IN_APP, IN_PARAMS, IN_PEER, IN_TOPIC, TABLES};
-use crate::tests::{check_edits, check_lines, with_line};
-use gs_plan::PlannedPeer;
-use gs_scenario::read_plan;
-use std::alloc::{AllocError, Global};
+use std::alloc::AllocError;
 
 #[test]
 fn a_badly_formed_name_is_out_of_range_and_an_unknown_one_unknown(
@@ -33,7 +30,7 @@ fn a_badly_formed_name_is_out_of_range_and_an_unknown_one_unknown(
             "30 do[0].topic",
         ),
     ];
-    check_edits(&rt, TABLES, &EDITS)
+    check_cases(&rt, &Change::Edit(TABLES), &EDITS)
 }
 
 #[test]
@@ -63,7 +60,7 @@ fn negative_numbers_are_only_for_eight_keys(rt: HostRuntime) -> Result<(), Alloc
         (IN_PARAMS, "heartbeat_ms = 0", "4"),
         (IN_PARAMS, "heartbeat_ms = 2000000000", "4"),
     ];
-    check_lines(&rt, &LINES)
+    check_cases(&rt, &Change::Line(""), &LINES)
 }
 
 #[test]
@@ -74,7 +71,7 @@ fn a_bad_item_is_refused_at_the_key_of_its_list(rt: HostRuntime) -> Result<(), A
         (IN_TOPIC, "reject = ['00', 0]", "29 topic[0].reject"),
         (IN_TOPIC, "ignore = ['00', '000']", "29 topic[0].ignore"),
     ];
-    check_lines(&rt, &LINES)
+    check_cases(&rt, &Change::Line(""), &LINES)
 }
 
 #[test]
@@ -102,7 +99,7 @@ fn what_no_toml_reader_takes_is_refused_wherever_it_stands(
         ("name = \"b\"\n", "name = \"b\"\nname = \"b\"\n", "26"),
         ("[params]\n", "[params]\n[params]\n", "26"),
     ];
-    check_edits(&rt, TABLES, &EDITS)
+    check_cases(&rt, &Change::Edit(TABLES), &EDITS)
 }
 
 #[test]
@@ -128,7 +125,7 @@ fn unknown_keys_are_named_as_they_were_read(rt: HostRuntime) -> Result<(), Alloc
         ),
         ("value = 5\n", "value = 5\nValue = 5\n", "27 app[0].Value"),
     ];
-    check_edits(&rt, TABLES, &EDITS)
+    check_cases(&rt, &Change::Edit(TABLES), &EDITS)
 }
 
 #[test]
@@ -139,38 +136,18 @@ fn hex_may_be_of_either_case(rt: HostRuntime) -> Result<(), AllocError> {
         (IN_TOPIC, "reject = ['ag']", "29 topic[0].reject"),
         (IN_TOPIC, "reject = ['0 ']", "29 topic[0].reject"),
     ];
-    check_lines(&rt, &LINES)
+    check_cases(&rt, &Change::Line(""), &LINES)
 }
 
 #[test]
 fn an_address_is_any_text(rt: HostRuntime) -> Result<(), AllocError> {
-    static ADDRESSES: [(&str, &str); 4] = [
-        ("", "b"),
-        ("address = ''", ""),
-        ("address = 'a'", "a"),
-        ("address = '/ip4 \u{e9}'", "/ip4 \u{e9}"),
+    static ADDRESSES: [Case; 4] = [
+        (IN_PEER, "", "b"),
+        (IN_PEER, "address = ''", ""),
+        (IN_PEER, "address = 'a'", "a"),
+        (IN_PEER, "address = '/ip4 \u{e9}'", "/ip4 \u{e9}"),
     ];
-    let alloc = rt.alloc();
-    for (line, want) in &ADDRESSES {
-        assert_eq!(rt; second_address(alloc, line)?.as_str(), *want, "{line}");
-    }
-    Ok(())
-}
-
-/// Returns the address of the second peer where its table has one more line, or the refusal.
-fn second_address(alloc: Global, line: &str) -> Result<String, AllocError> {
-    let text = with_line(alloc, IN_PEER, line)?;
-    match read_plan(alloc, text.as_str()) {
-        Ok(plan) => String::from_str(alloc, address_of_second(plan.peers.as_slice())),
-        Err(fault) => format!(in alloc; "{fault}"),
-    }
-}
-
-fn address_of_second(peers: &[PlannedPeer]) -> &str {
-    match peers {
-        [_, peer, _] => peer.address.as_str(),
-        _ => "not one of three peers",
-    }
+    check_shown(&rt, &Change::Line(""), &Shown::Address, &ADDRESSES)
 }
 
 #[test]
@@ -196,5 +173,5 @@ fn a_truth_value_is_no_number_and_one_is_no_truth_value(rt: HostRuntime) -> Resu
             "29 app[1].value",
         ),
     ];
-    check_lines(&rt, &LINES)
+    check_cases(&rt, &Change::Line(""), &LINES)
 }

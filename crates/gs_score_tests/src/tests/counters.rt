@@ -13,6 +13,7 @@ enum Call {
 
 /// What a counter is then.
 struct Case {
+    name: &'static str,
     factor: u64,
     calls: &'static [Call],
     /// The kept value, and the number of decays up to which it was decayed.
@@ -27,24 +28,28 @@ const ONE: Call = Call::Raise(1_000_000, CAP);
 /// A factor of a half, and cases in which it is one.
 static CASES: [Case; 21] = [
     Case {
+        name: "nothing",
         factor: 500_000,
         calls: &[],
         stored: (0, 0),
         read: 0,
     },
     Case {
+        name: "three steps",
         factor: 500_000,
         calls: &[ONE, Call::Steps(3)],
         stored: (1_000_000, 0),
         read: 125_000,
     },
     Case {
+        name: "three steps, and a raise",
         factor: 500_000,
         calls: &[ONE, Call::Steps(3), ONE],
         stored: (1_125_000, 3),
         read: 1_125_000,
     },
     Case {
+        name: "six steps",
         factor: 500_000,
         calls: &[ONE, Call::Steps(6)],
         stored: (1_000_000, 0),
@@ -52,18 +57,21 @@ static CASES: [Case; 21] = [
     },
     // 7,812 is below the floor, and 10,000 is not.
     Case {
+        name: "seven steps",
         factor: 500_000,
         calls: &[ONE, Call::Steps(7)],
         stored: (1_000_000, 0),
         read: 0,
     },
     Case {
+        name: "a step down to the floor",
         factor: 500_000,
         calls: &[Call::Raise(20_000, CAP), Call::Steps(1)],
         stored: (20_000, 0),
         read: 10_000,
     },
     Case {
+        name: "a step below the floor",
         factor: 500_000,
         calls: &[Call::Raise(19_999, CAP), Call::Steps(1)],
         stored: (19_999, 0),
@@ -71,12 +79,14 @@ static CASES: [Case; 21] = [
     },
     // No step is made where one changes nothing.
     Case {
+        name: "a factor of one",
         factor: 1_000_000,
         calls: &[ONE, Call::Steps(100_000)],
         stored: (1_000_000, 0),
         read: 1_000_000,
     },
     Case {
+        name: "a large number of steps",
         factor: 500_000,
         calls: &[ONE, Call::Steps(1 << 63)],
         stored: (1_000_000, 0),
@@ -84,36 +94,42 @@ static CASES: [Case; 21] = [
     },
     // Each step takes a millionth, rounded up: 1 of up to a million, 5 of more than four and up to five.
     Case {
+        name: "a factor of almost one",
         factor: 999_999,
         calls: &[ONE, Call::Steps(100_000)],
         stored: (1_000_000, 0),
         read: 900_000,
     },
     Case {
+        name: "down to the floor",
         factor: 999_999,
         calls: &[ONE, Call::Steps(990_000)],
         stored: (1_000_000, 0),
         read: 10_000,
     },
     Case {
+        name: "below the floor",
         factor: 999_999,
         calls: &[ONE, Call::Steps(990_001)],
         stored: (1_000_000, 0),
         read: 0,
     },
     Case {
+        name: "five, down to four",
         factor: 999_999,
         calls: &[Call::Raise(5_000_000, CAP), Call::Steps(200_000)],
         stored: (5_000_000, 0),
         read: 4_000_000,
     },
     Case {
+        name: "five, down to below four",
         factor: 999_999,
         calls: &[Call::Raise(5_000_000, CAP), Call::Steps(200_001)],
         stored: (5_000_000, 0),
         read: 3_999_996,
     },
     Case {
+        name: "five, and a raise",
         factor: 999_999,
         calls: &[Call::Raise(5_000_000, CAP), Call::Steps(300_000), ONE],
         stored: (4_600_000, 300_000),
@@ -121,12 +137,14 @@ static CASES: [Case; 21] = [
     },
     // A thousandth: 50 steps of 20, then steps of 19.
     Case {
+        name: "a thousandth, and 50 steps",
         factor: 999_000,
         calls: &[Call::Raise(20_000, CAP), Call::Steps(50)],
         stored: (20_000, 0),
         read: 19_000,
     },
     Case {
+        name: "a thousandth, and 60 steps",
         factor: 999_000,
         calls: &[Call::Raise(20_000, CAP), Call::Steps(60)],
         stored: (20_000, 0),
@@ -134,12 +152,14 @@ static CASES: [Case; 21] = [
     },
     // Steps of 11: the tenth would leave 9,990, which is below the floor.
     Case {
+        name: "nine steps of eleven",
         factor: 999_000,
         calls: &[Call::Raise(10_100, CAP), Call::Steps(9)],
         stored: (10_100, 0),
         read: 10_001,
     },
     Case {
+        name: "ten steps of eleven",
         factor: 999_000,
         calls: &[Call::Raise(10_100, CAP), Call::Steps(10)],
         stored: (10_100, 0),
@@ -147,12 +167,14 @@ static CASES: [Case; 21] = [
     },
     // The cap holds for the sum.
     Case {
+        name: "the cap of a sum",
         factor: 500_000,
         calls: &[ONE, Call::Raise(1_000_000, 1_500_000)],
         stored: (1_500_000, 0),
         read: 1_500_000,
     },
     Case {
+        name: "the greatest cap",
         factor: 0,
         calls: &[ONE, Call::Raise(1 << 63, 1_000_000_000_000)],
         stored: (1_000_000_000_000, 0),
@@ -183,23 +205,20 @@ fn perform(counter: &mut Counter, decay: Decay, decays: u64, call: &Call) -> u64
     }
 }
 
-/// A counter to which all was done, and what it is read as.
-fn done(case: &Case) -> (Counter, u64) {
+/// Whether the counter, to which all was done, is stored and read as the case says.
+fn holds(case: &Case) -> bool {
     let decay = decay(case.factor);
     let mut counter = Counter::new();
     let mut decays = 0;
     for step in case.calls {
         decays = perform(&mut counter, decay, decays, step);
     }
-    let read = counter.read(decay, decays);
-    (counter, read)
+    counter.stored() == case.stored && counter.read(decay, decays) == case.read
 }
 
 #[test]
 fn counters_decay_where_they_are_looked_at(rt: HostRuntime) {
     for case in &CASES {
-        let (counter, read) = done(case);
-        assert_eq!(rt; counter.stored(), case.stored);
-        assert_eq!(rt; read, case.read);
+        assert!(rt; holds(case), "{}", case.name);
     }
 }

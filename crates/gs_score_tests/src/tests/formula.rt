@@ -6,6 +6,7 @@ use gs_score::score_of;
 
 /// What a score is made of, and what it is, in millionths.
 struct Case {
+    name: &'static str,
     /// Whether topics together give at most five.
     capped: bool,
     topics: i128,
@@ -18,6 +19,7 @@ struct Case {
 
 static CASES: [Case; 7] = [
     Case {
+        name: "nothing",
         capped: false,
         topics: 0,
         app: 0,
@@ -26,6 +28,7 @@ static CASES: [Case; 7] = [
         score: 0,
     },
     Case {
+        name: "topics without a cap",
         capped: false,
         topics: 9_000_000,
         app: 0,
@@ -34,6 +37,7 @@ static CASES: [Case; 7] = [
         score: 9_000_000,
     },
     Case {
+        name: "topics above the cap",
         capped: true,
         topics: 9_000_000,
         app: 0,
@@ -42,6 +46,7 @@ static CASES: [Case; 7] = [
         score: 5_000_000,
     },
     Case {
+        name: "topics below 0",
         capped: true,
         topics: -9_000_000,
         app: 1,
@@ -51,6 +56,7 @@ static CASES: [Case; 7] = [
     },
     // Two neighbours more than may be: -5 * 2 * 2.
     Case {
+        name: "two neighbours too many",
         capped: false,
         topics: 0,
         app: 1_000_000,
@@ -60,6 +66,7 @@ static CASES: [Case; 7] = [
     },
     // -10 * 2 * 2.
     Case {
+        name: "misbehaviour",
         capped: false,
         topics: 0,
         app: 0,
@@ -69,6 +76,7 @@ static CASES: [Case; 7] = [
     },
     // All at their bounds: 10^12 - 5 * (10^6 - 1)^2 and - 10 * 10^6 * 10^6, with six digits each.
     Case {
+        name: "all at their bounds",
         capped: true,
         topics: 10_000_000_000_000_000_000_000_000_000,
         app: 1_000_000_000_000,
@@ -113,6 +121,6 @@ fn score(case: &Case) -> Option<i128> {
 #[test]
 fn scores_are_made_by_hand(rt: HostRuntime) {
     for case in &CASES {
-        assert_eq!(rt; score(case), Some(case.score));
+        assert!(rt; score(case) == Some(case.score), "{}", case.name);
     }
 }

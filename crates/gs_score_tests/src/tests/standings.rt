@@ -16,6 +16,7 @@ enum Call {
 
 /// What it holds then, in millionths.
 struct Case {
+    name: &'static str,
     /// Under the strict rules, and not the mixed ones.
     strict: bool,
     calls: &'static [Call],
@@ -31,6 +32,7 @@ const LATE: [Call; 2] = [Call::Raise(Kind::Near, 500_000), Call::Graft(0)];
 
 static CASES: [Case; 11] = [
     Case {
+        name: "nothing",
         strict: true,
         calls: &[],
         now: 9_000,
@@ -40,6 +42,7 @@ static CASES: [Case; 11] = [
     },
     // Active, and not yet.
     Case {
+        name: "half a delivery, and active",
         strict: true,
         calls: &LATE,
         now: 5_000,
@@ -48,6 +51,7 @@ static CASES: [Case; 11] = [
         part: -2_250_000,
     },
     Case {
+        name: "half a delivery, and not yet active",
         strict: true,
         calls: &LATE,
         now: 4_999,
@@ -57,6 +61,7 @@ static CASES: [Case; 11] = [
     },
     // Out of the mesh it is charged once.
     Case {
+        name: "out of the mesh, and charged",
         strict: true,
         calls: &[
             Call::Raise(Kind::Near, 500_000),
@@ -70,6 +75,7 @@ static CASES: [Case; 11] = [
         part: -2_250_000,
     },
     Case {
+        name: "all that is asked for",
         strict: true,
         calls: &[Call::Raise(Kind::Near, 2_000_000), Call::Graft(0)],
         now: 5_000,
@@ -79,6 +85,7 @@ static CASES: [Case; 11] = [
     },
     // 3,999 ms are three quanta: 2 * 3 + 3 * 2 - 3 * 3, and half of that counts.
     Case {
+        name: "three quanta",
         strict: false,
         calls: &[
             Call::Graft(100),
@@ -92,6 +99,7 @@ static CASES: [Case; 11] = [
     },
     // A step later: 2 * 3 + 3 * 1 - 1.5 * 1.5.
     Case {
+        name: "three quanta, and a step later",
         strict: false,
         calls: &[
             Call::Graft(100),
@@ -106,6 +114,7 @@ static CASES: [Case; 11] = [
     },
     // The time in the mesh counts up to its cap, and first deliveries up to theirs.
     Case {
+        name: "the cap of the time in the mesh",
         strict: false,
         calls: &[Call::Graft(0)],
         now: 1_000_000_000_000_000,
@@ -114,6 +123,7 @@ static CASES: [Case; 11] = [
         part: 100_000_000,
     },
     Case {
+        name: "the cap of first deliveries",
         strict: false,
         calls: &[Call::Raise(Kind::First, 1 << 63)],
         now: 0,
@@ -123,6 +133,7 @@ static CASES: [Case; 11] = [
     },
     // The square of a thousandth is a millionth, and half of it, below 0, is one.
     Case {
+        name: "the square of a thousandth",
         strict: false,
         calls: &[Call::Raise(Kind::Invalid, 1_000)],
         now: 0,
@@ -131,6 +142,7 @@ static CASES: [Case; 11] = [
         part: -1,
     },
     Case {
+        name: "the cap of a deficit",
         strict: true,
         calls: &[Call::Raise(Kind::Deficit, 1 << 63), Call::Steps(1)],
         now: 0,
@@ -185,8 +197,20 @@ fn perform(standing: &mut Standing, rules: &TopicRules, decays: u64, call: &Call
     decays
 }
 
-/// What is held after all that is done: the counters, what is missing, and the part of the score.
-fn held(case: &Case) -> ([u64; 4], u64, i128) {
+/// What is held after these decays: the counters of all four kinds.
+fn counts(standing: &Standing, rules: &TopicRules, decays: u64) -> [u64; 4]
+    requires { RulesAreInRange rules.now }
+{
+    [
+        standing.count(Kind::First, rules, decays),
+        standing.count(Kind::Near, rules, decays),
+        standing.count(Kind::Deficit, rules, decays),
+        standing.count(Kind::Invalid, rules, decays),
+    ]
+}
+
+/// Whether the case's values are held after all that is done: the counters, what is missing, and the part of the score.
+fn holds(case: &Case) -> bool {
     let rules = rules(case.strict);
     let now = Millis(case.now);
     let mut standing = Standing::new();
@@ -194,25 +218,14 @@ fn held(case: &Case) -> ([u64; 4], u64, i128) {
     for call in case.calls {
         decays = perform(&mut standing, &rules, decays, call);
     }
-    let counts = [
-        standing.count(Kind::First, &rules, decays),
-        standing.count(Kind::Near, &rules, decays),
-        standing.count(Kind::Deficit, &rules, decays),
-        standing.count(Kind::Invalid, &rules, decays),
-    ];
-    (
-        counts,
-        standing.missing(&rules, decays, now),
-        standing.part(&rules, decays, now),
-    )
+    counts(&standing, &rules, decays) == case.counts
+        && standing.missing(&rules, decays, now) == case.missing
+        && standing.part(&rules, decays, now) == case.part
 }
 
 #[test]
 fn standings_are_scored_by_hand(rt: HostRuntime) {
     for case in &CASES {
-        let (counts, missing, part) = held(case);
-        assert_eq!(rt; counts, case.counts);
-        assert_eq!(rt; missing, case.missing);
-        assert_eq!(rt; part, case.part);
+        assert!(rt; holds(case), "{}", case.name);
     }
 }
