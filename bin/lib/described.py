@@ -3,6 +3,7 @@ that gave it."""
 from scenario import build
 from scenario.command import Options
 from scenario.fault import Fault, Faults
+from scenario.plain import Limits
 from spots import Spots, is_at, value_at
 
 PRINTED = " of what bin/scenario prints"
@@ -21,6 +22,8 @@ class Described:
     """A description, and which of its parts each peer and each line comes from."""
 
     def __init__(self, file):
+        # (bin/scenario has looked at the limits, which may be the large ones)
+        Limits.be_large()
         self.spots, self.scenario, self.origins = Spots(b""), {}, {}
         options = Options()
         options.file = file

@@ -36,6 +36,6 @@ refuse_edits() {
 expand() {
   local plain
   refuse_edits "$1"
-  plain=$("$top/bin/scenario" -- "$1") || exit
+  plain=$("$top/bin/scenario" "${large[@]}" -- "$1") || exit
   exec <<<"$plain"
 }

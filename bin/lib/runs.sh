@@ -1,6 +1,6 @@
 # shellcheck shell=bash disable=SC2154,SC2034
-# What bin/gossip_sim, gossip_stats, gossip_picture, gossip_trace, gossip_scores and gossip_view have in common:
-# the options of a run, its input, and its programs, proved or not. Each of them sets `top` to the repository's folder, `tool` to its own
+# What bin/gossip_sim, gossip_stats, gossip_picture, gossip_trace, gossip_scores and gossip_view have in common: the options
+# of a run, its input, and its programs, proved or not. Each of them sets `top` to the repository's folder, `tool` to its own
 # name, `program` to the program that it runs (none where the scenario is printed) and `what` to what that prints, and has
 # `usage`, and `take_option` for the options of its own.
 # shellcheck source-path=SCRIPTDIR
@@ -22,6 +22,7 @@ print_options() {
   --set KEY=VALUE   with another value of any key, written as in TOML, such as params.flood_publish=false;
                     these four can be repeated
   --until ROUND     up to this round, or to a time, such as "150 s": the scenario is cut there, and later lines are left out
+  --large           takes up to 4,096 peers and 64 MiB, instead of 64 peers and 8 MiB
   --words           says why a scenario is refused, and in which line, in words on standard error, as on a terminal
   --proved          runs only proved programs
   --help, -h        prints this
@@ -57,7 +58,7 @@ version() {
   echo "$tool commit $commit, $kit"
 }
 
-words=("$@") arguments=() edits=() files=() is_strict='' has_words='' until=''
+words=("$@") arguments=() edits=() files=() is_strict='' has_words='' until='' large=()
 
 change() {
   [[ $1 == *=* ]] || stop 64 "--set takes KEY=VALUE, not $1; --help says more"
@@ -85,6 +86,7 @@ parse() {
       --version | -V) version && exit ;;
       --words) has_words=yes ;;
       --proved) is_strict=yes ;;
+      --large) large=(--large) ;;
       --workers=* | --capacity=* | --seed=*) edits+=("${1#--}") ;;
       --set=*) change "${1#--set=}" ;;
       --until=*) cut_at "${1#--until=}" ;;
@@ -125,10 +127,18 @@ call() {
   return "$status"
 }
 
-# Copies standard input, so that it can be read again. The programs look at no more of an input than this, and refuse it.
+# Copies standard input, so that it can be read again, up to one byte more than it may have. A program refuses that itself,
+# but a change or a cut could make it shorter.
 keep_input() {
+  local longest=8388608
+  [ ${#large[@]} -eq 0 ] || longest=67108864
   scenario=$room/input
-  head -c 8388609 >"$scenario" 2>/dev/null || fail 'input failed'
+  head -c $((longest + 1)) >"$scenario" 2>/dev/null || fail 'input failed'
+  [ ${#edits[@]} -gt 0 ] || [ -n "$until" ] || return 0
+  if [ "$(stat -c %s "$scenario")" -gt "$longest" ]; then
+    echo "edit refused: the scenario has more than $longest bytes" >&2
+    exit 1
+  fi
 }
 
 change_input() {
@@ -170,7 +180,7 @@ print_words() {
   if [ -n "${is_unproved[$program]-}" ] || [ -z "$(lack_of gossip_check)" ]; then
     look_for gossip_check
     compile_missing gossip_check
-    call gossip_check <"$scenario" >"$room/answer"
+    call gossip_check "${large[@]}" <"$scenario" >"$room/answer"
     tail -n +2 "$room/answer" >&2
     point refusal >&2
   else
@@ -181,7 +191,7 @@ print_words() {
 # Prints the answer of gossip_check, and to which lines it points; or warns of what can be run. Ends with its status.
 print_answer() {
   local status=0
-  call gossip_check >"$room/answer" || status=$?
+  call gossip_check "${large[@]}" >"$room/answer" || status=$?
   : >"$room/lines"
   [ "$status" -ne 1 ] || point refusal >"$room/lines"
   cat "$room/answer" "$room/lines" 2>/dev/null || fail 'output failed'
@@ -221,7 +231,7 @@ run_changed() {
   # Nothing is left to do after a program that is proved and whose refusal needs no words.
   if [ ${#is_unproved[@]} -eq 0 ] && [ -z "$has_words" ] && is_as_it_comes; then
     say_reading
-    GLIBC_TUNABLES=$tunables exec "$(program_of "$program")" "${arguments[@]}"
+    GLIBC_TUNABLES=$tunables exec "$(program_of "$program")" "${large[@]}" "${arguments[@]}"
   fi
   make_ready "${programs[@]}"
   if [ -z "$program" ]; then
@@ -229,7 +239,7 @@ run_changed() {
     exit
   fi
   [ "$program" != gossip_check ] || print_answer
-  call "$program" "${arguments[@]}" || status=$?
+  call "$program" "${large[@]}" "${arguments[@]}" || status=$?
   [ "$status" -ne 1 ] || explain_refusal
   exit "$status"
 }

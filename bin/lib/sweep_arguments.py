@@ -11,7 +11,7 @@ MOST_RUNS = 1_000_000
 MOST_GROUPS = 16
 GROUP = re.compile("([a-zA-Z0-9_-]{1,32})=.*", re.DOTALL)
 Options = namedtuple(
-    "Options", "settings columns figure_options peer jobs folder until over is_table has_header is_list is_strict file"
+    "Options", "settings columns large figure_options peer jobs folder until over is_table has_header is_list is_strict file"
 )
 
 
@@ -39,7 +39,7 @@ class Arguments:
 
     def take_option(self, word):
         name, equals, inline = word.partition("=")
-        if name in ("--list", "--no-header", "--proved", "--table") and not equals:
+        if name in ("--list", "--no-header", "--proved", "--table", "--large") and not equals:
             self.flags.add(name)
         elif name in ("--set", "--seeds", "--networks"):
             text = self.value_of(name, inline if equals else None)
@@ -151,6 +151,7 @@ class Arguments:
         return Options(
             self.settings,
             self.columns(),
+            ["--large"] if "--large" in self.flags else [],
             self.figure_options(),
             self.values.get("--peer"),
             self.jobs(),

@@ -198,7 +198,8 @@ class Sweep:
         self.programs, self.scenario, self.peer, self.folder = programs, scenario, options.peer, folder
         self.proved, self.until = "yes" if is_proved else "no", options.until
         self.settings, self.columns, self.header = list(options.settings.values), (), []
-        self.figures = [programs["gossip_stats"], "--json", *options.figure_options]
+        self.large = options.large
+        self.figures = [programs["gossip_stats"], *self.large, "--json", *options.figure_options]
         self.left_out = ", or --of leaves it out" if "--of" in options.figure_options else ""
         self.lock, self.live, self.is_stopped = threading.Lock(), set(), False
         self.file, self.checker = options.file, functools.lru_cache(None)(checker)
@@ -207,7 +208,7 @@ class Sweep:
         self.source = []
         if folder:
             self.source = [hash_of(scenario), *map(hash_in, programs.values()), options.peer, self.until, self.proved]
-            self.source += options.figure_options
+            self.source += [*options.large, *options.figure_options]
         if folder and NETWORK in options.settings.values:
             self.source.append(hash_in(options.file))
 
@@ -262,7 +263,7 @@ class Sweep:
 
     def made_anew(self, seed):
         """The scenario that a description gives by another seed."""
-        return self.call([SCENARIO, "--seed", seed, "--", self.file], b"")
+        return self.call([SCENARIO, *self.large, "--seed", seed, "--", self.file], b"")
 
     def explained(self, end, scenario):
         """A run that was refused only by a number gets the words of gossip_check, which have the key."""
@@ -272,7 +273,7 @@ class Sweep:
             program = self.checker()
         if program is None:
             return end
-        words = self.call([program], scenario).output.decode(errors="replace").split("\n")[1:]
+        words = self.call([program, *self.large], scenario).output.decode(errors="replace").split("\n")[1:]
         return end._replace(message="; ".join([end.message, *words]).strip("; "))
 
     def cut(self, scenario):

@@ -57,7 +57,7 @@ check_figures() {
     expect "the sums over rounds and links of $(basename "$file" .toml)" 0 '' '' sums_of "$file"
   done
   expect 'figures of nothing' 1 '' 'scenario refused: 28 round_ms' stats /dev/null
-  usage='usage: gossip_stats [--by PEERS | --rounds | --topics | --links] [--of PEERS] [--group NAME=PEERS].. [--csv | --json]'
+  usage='usage: gossip_stats [--large] [--by PEERS|--rounds|--topics|--links] [--of PEERS] [--group NAME=PEERS].. [--csv|--json]'
   expect 'two forms of figures' 64 '' "$usage" stats --csv --json "$example"
   expect 'publishers of no message' 64 '' 'gossip_stats: --rounds has no messages, so there is no place for --by; --help says more' \
     stats --by a --rounds "$example"

@@ -13,6 +13,7 @@ CHECKS = {
     "tools/check_scripts": PASSED,
     "tools/check_scenarios": PASSED,
     "tools/check_engines": r"\d+ scenarios by both engines, .*\d+ differ",
+    "tools/check_large": r"\d+ deliveries, \d+ limits and \d+ discs, \d+ differ",
     "tools/check_traces": r"\d+ traces, .*\d+ differ",
     "tools/check_view": r"\d+ pages, .*\d+ differ",
     "tools/refuse_each": r"\d+ right, \d+ wrong.*",

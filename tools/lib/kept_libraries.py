@@ -19,7 +19,9 @@ def code_of_rt():
 
 
 def take(rt, kept, crate):
-    """Puts the kept library of a crate into its out/, and says whether there was one."""
+    """Puts the kept library of a crate into its out/, and says whether there was one. (A file that is there would be taken for
+    a damaged one of rt's store, and rt would remove the library from it.)"""
+    shutil.rmtree(f"{crate.folder}/out/rlib", ignore_errors=True)
     if not kept.give(crate, False, kept.key(crate)):
         return False
     kept.is_built(crate)

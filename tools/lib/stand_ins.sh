@@ -87,6 +87,12 @@ tried_scores() {
   echo scenario | in_tree tried=0 gossip_scores "$@"
 }
 
+# A change of a scenario that has a byte too many.
+changed_long() {
+  head -c 8388609 /dev/zero | tr '\0' '#' | in_tree tried=0 gossip_sim "${@:---seed=2}" 2>&1 >/dev/null | grep refused >&2
+  return "${PIPESTATUS[2]}"
+}
+
 tried_to_closed_output() {
   tried 0 >&-
 }
@@ -143,6 +149,16 @@ check_unproved() {
   expect 'a direct run without proof' 0 'gossip_sim --direct scenario' "$said"$'\ntold by gossip_sim' tried 0 --direct
   expect 'a direct check' 64 '' 'gossip_sim: --direct goes with a run, not with --check or --print; --help says more' \
     tried 0 --direct --check
+  expect 'a large run' 0 'gossip_sim --large --direct scenario' "$said"$'\ntold by gossip_sim' tried 0 --direct --large
+  expect 'a large run over links' 64 '' \
+    'gossip_sim: --large goes with --direct, since a run over links has at most 64 peers; --help says more' tried 0 --large
+  expect_like 'a large check' 0 'gossip_check --large scenario*' '*told by gossip_check*' tried 0 --large --check
+  expect_like 'large figures' 0 'gossip_stats --large --csv scenario' '*told by gossip_stats' tried_figures --csv --large
+  expect_like 'a large trace' 0 'gossip_trace --large --peer b scenario' '*told by gossip_trace' tried_trace --large --peer b
+  expect_like 'large scores' 0 'gossip_scores --large scenario' '*told by gossip_scores' tried_scores --large
+  expect_like 'a large picture' 0 'gossip_picture --large news scenario' '*told by gossip_picture' tried_picture --topic news --large
+  expect_like 'a long scenario that is changed' 1 '' 'edit refused: the scenario has more than 8388608 bytes' changed_long
+  expect_like 'a long scenario that is cut' 1 '' 'edit refused: the scenario has more than 8388608 bytes' changed_long --until 3
   expect_like 'figures without proof' 0 'gossip_stats --csv scenario' \
     'gossip_stats: this set of figures does not come from a proved program: gossip_stats is not built*told by gossip_stats' \
     tried_figures --csv
@@ -154,7 +170,7 @@ check_unproved() {
   expect_like 'lines of a word that is no event' 0 'gossip_trace --events publised,refused scenario' \
     'gossip_trace: no line has the event publised; --help lists them
 *gossip_trace is not built*' tried_trace --events publised,refused
-  usage='usage: gossip_trace [--peer NAME] [--topic TOPIC] [--rounds A..B] [--events A,B,..]'
+  usage='usage: gossip_trace [--large] [--peer NAME] [--topic TOPIC] [--rounds A..B] [--events A,B,..]'
   expect 'a trace of two peers' 64 '' "$usage" tried_trace --peer b --peer c
   expect 'a trace of rounds that are none' 64 '' "$usage" tried_trace --rounds 3..2
   expect 'a trace of a round without an end' 64 '' "$usage" tried_trace --rounds 3
@@ -165,7 +181,7 @@ check_unproved() {
   expect_like 'some scores' 0 'gossip_scores --peer b --neighbour s --rounds 2..3 --format csv scenario' '*' \
     tried_scores --peer b --neighbour=s --rounds 2..3 --format=csv
   expect_like 'a summary of scores' 0 'gossip_scores --peer b --summary scenario' '*' tried_scores --peer b --summary
-  usage='usage: gossip_scores [--peer NAME] [--neighbour NAME] [--rounds A..B] [--format json|csv | --summary]'
+  usage='usage: gossip_scores [--large] [--peer NAME] [--neighbour NAME] [--rounds A..B] [--format json|csv | --summary]'
   expect 'a summary with a format' 64 '' "$usage" tried_scores --summary --format csv
   expect 'a format with a summary' 64 '' "$usage" tried_scores --format=csv --peer b --summary
   expect 'two summaries' 64 '' "$usage" tried_scores --summary --summary

@@ -130,6 +130,7 @@ ok: a case: 0
 7 passed, 0 failed
 6 passed, 0 failed
 5 scenarios by both engines, 5 of them reported, 0 differ
+20 deliveries, 2 limits and 12 discs, 0 differ
 4 traces, 44 lines, 444 figures, 0 differ
 3 pages, 33 rounds, 0 differ
 2 right, 0 wrong, in 22 seconds

@@ -33,7 +33,7 @@ def setting_of(top, seed):
 def checked_lists(top):
     """The lists of tables, each there, and no longer than any scenario may have them."""
     lists = {it: top.list(it, []) for it in LISTS}
-    for name, most in (("topic", plain.MOST_TOPICS), ("peer", plain.MOST_PEERS)):
+    for name, most in (("topic", plain.MOST_TOPICS), ("peer", plain.Limits.peers)):
         if len(lists[name]) > most:
             raise Fault((name, most), f"a scenario has at most {most} of them")
     if not lists["topic"]:

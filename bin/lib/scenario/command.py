@@ -7,7 +7,7 @@ import sys
 from . import build, presets
 from .fault import Fault, Faults, Missing, words_of
 from .places import Places, Unreadable
-from .plain import MOST_BYTES, one_line, scenario_text
+from .plain import Limits, one_line, scenario_text
 
 # A line by which a text may be a description. Where there is none, it is a plain scenario.
 HINT = re.compile(rb"^[ \t]*(?:\[\[?[ \t]*)?[\"']?(?:%s)\b" % "|".join(build.OF_DESCRIPTIONS).encode(), re.MULTILINE)
@@ -68,6 +68,8 @@ def options_in(words, usage):
                 options.params = value
             else:
                 options.seed = number_in(value)
+        elif word == "--large":
+            Limits.be_large()
         elif word == "--":
             files, words = files + words, []
         elif word.startswith("-") and word != "-":
@@ -155,8 +157,8 @@ def syntax_fault(options, why):
 
 def text_of(options, data):
     """A description as a text."""
-    if len(data) > MOST_BYTES:
-        stop(1, f"{name_of(options)}: a description has at most {MOST_BYTES:,} bytes")
+    if len(data) > Limits.size:
+        stop(1, f"{name_of(options)}: a description has at most {Limits.size:,} bytes")
     try:
         return data.decode("utf-8-sig").replace("\r\n", "\n")
     except UnicodeDecodeError:
@@ -178,8 +180,8 @@ def scenario_in(options, data):
     except Fault as fault:
         return explain_all(options, places_in(text), [fault], False)
     printed = scenario_text(scenario, comments, heading(options, data)).encode()
-    if len(printed) > MOST_BYTES:
-        many = f"the scenario has {len(printed):,} bytes, and only {MOST_BYTES:,} are read"
+    if len(printed) > Limits.size:
+        many = f"the scenario has {len(printed):,} bytes, and only {Limits.size:,} are read"
         stop(1, f"{name_of(options)}: {many}: shorten the script")
     return printed
 

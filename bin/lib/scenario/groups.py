@@ -3,7 +3,7 @@ from . import networks
 from .draws import Draws
 from .fault import Fault, no_such
 from .fields import Fields, is_name
-from .plain import MOST_PEERS
+from .plain import Limits
 
 GROUP = "prefix count network dials dials_each address addresses app_score explicit topics from until stagger".split()
 TOPIC_TIME = "name from until".split()
@@ -23,7 +23,7 @@ def member_names(fields):
     prefix = fields.name("prefix")
     if not fields.has("count"):
         return [prefix]
-    count = fields.whole("count", 1, MOST_PEERS)
+    count = fields.whole("count", 1, Limits.peers)
     width = len(str(count))
     names = [f"{prefix}{it:0{width}}" for it in range(1, count + 1)]
     if not is_name(names[-1]):
@@ -34,7 +34,7 @@ def member_names(fields):
 def addresses_of(fields, names):
     """The address of each peer of a group; None where it has its own."""
     address = fields.text("address", None)
-    many = fields.whole("addresses", 1, MOST_PEERS, None)
+    many = fields.whole("addresses", 1, Limits.peers, None)
     if address is not None and many is not None:
         fields.fail("addresses", "it does not go with address")
     if many is None:
@@ -62,7 +62,7 @@ def dial_from_group(world, fields, names):
             fields.fail("dials_each", "it goes with dials")
         return
     targets = world.named(fields, "dials")
-    many = fields.whole("dials_each", 1, MOST_PEERS, None)
+    many = fields.whole("dials_each", 1, Limits.peers, None)
     draws = Draws(world.setting.seed, "dials", *fields.path)
     for name in names:
         others = [it for it in targets if it != name and not world.are_joined(name, it)]
@@ -72,7 +72,7 @@ def dial_from_group(world, fields, names):
 
 def degree_in(fields, count, is_even=False):
     """How many neighbours each peer of a network gets."""
-    degree = fields.whole("degree", 1, MOST_PEERS - 1)
+    degree = fields.whole("degree", 1, Limits.peers - 1)
     if degree >= count:
         fields.fail("degree", f"{degree} is too much for {count} peers: each has at most {count - 1} others")
     if degree == 1 and count > 2:
@@ -97,7 +97,7 @@ def cluster_parts(world, fields, members):
 
 def clusters(world, fields, members, draws):
     parts = cluster_parts(world, fields, members)
-    degree = fields.whole("degree", 1, MOST_PEERS - 1)
+    degree = fields.whole("degree", 1, Limits.peers - 1)
     if degree == 1 and max(map(len, parts)) > 2:
         fields.fail("degree", "with one neighbour each, not all peers are joined: it must be 2 at least")
     most = min((len(one) * len(other) for one, other in zip(parts, parts[1:])), default=1)

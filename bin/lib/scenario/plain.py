@@ -4,7 +4,18 @@ import json
 import re
 from decimal import Decimal
 
-MOST_PEERS, MOST_TOPICS, MOST_BYTES, MOST_RAW = 64, 32, 8_388_608, 2_097_152
+MOST_TOPICS, MOST_RAW = 32, 2_097_152
+
+
+class Limits:
+    """How large a scenario may be: its peers and its bytes. `--large` sets the large limits."""
+
+    peers, size = 64, 8_388_608
+
+    @classmethod
+    def be_large(cls):
+        cls.peers, cls.size = 4_096, 67_108_864
+
 
 TOP = "round_ms rounds workers capacity seed params topic peer dial app explicit do".split()
 PARAMS = (

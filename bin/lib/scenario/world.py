@@ -2,7 +2,7 @@
 from collections import namedtuple
 
 from .fault import Fault, no_such
-from .plain import MOST_BYTES, MOST_PEERS, MOST_RAW
+from .plain import MOST_RAW, Limits
 
 # The length of a round in milliseconds, the last round, and the seed of all choices.
 Setting = namedtuple("Setting", "round_ms rounds seed")
@@ -15,7 +15,7 @@ class World:
 
     def __init__(self, setting):
         self.setting = setting
-        self.peers, self.groups, self.network, self.topics = {}, {}, [], {}
+        self.peers, self.places, self.groups, self.network, self.topics = {}, {}, {}, [], {}
         self.dials, self.subscribed, self.lines, self.published = {}, {}, [], []
         self.payloads, self.size = set(), 0
         # (how many bytes there were before the moments of a table, how many of these are done, and of how many)
@@ -27,15 +27,16 @@ class World:
         name = table["name"]
         if name in self.peers or name in self.groups:
             raise Fault(path, f'there is a peer or a group "{name}" already')
-        if len(self.peers) == MOST_PEERS:
-            raise Fault(path, f"a scenario has at most {MOST_PEERS} peers")
+        if len(self.peers) == Limits.peers:
+            raise Fault(path, f"a scenario has at most {Limits.peers} peers")
+        self.places[name] = len(self.peers)
         self.peers[name] = table
         self.peer_paths.append(path)
         if is_in_network:
             self.network.append(name)
 
     def place(self, name):
-        return list(self.peers).index(name)
+        return self.places[name]
 
     def join(self, dialling, dialled):
         """Adds a dial, where the two are not joined yet. Whether it did."""
@@ -103,12 +104,12 @@ class World:
         hint = f"; {less[path[0]]} makes it less" if path[0] in less else ""
         # (the tables after it are checked by themselves)
         self.size = self.done = 0
-        raise Fault(path, f"with it the scenario has {many} bytes, and only {MOST_BYTES:,} are read{hint}")
+        raise Fault(path, f"with it the scenario has {many} bytes, and only {Limits.size:,} are read{hint}")
 
     def add_line(self, path, line):
         """Adds a line of the script, while the scenario still fits what the program reads."""
         self.size += sum(len(key) + len(str(value)) + 5 for key, value in line.items())
-        if self.size > MOST_BYTES:
+        if self.size > Limits.size:
             self.too_much(path)
         if line["at"] <= self.setting.rounds:
             self.lines.append(line)

@@ -6,6 +6,7 @@ use Rattle.gs_report.specs.declared.report.Report.{Report}
 use Rattle.gs_picture.specs.Picture.{picture}
 use Rattle.gs_picture.specs.Topics.{first_topic}
 use Rattle.gs_program.specs.Arguments.{IsMisused}
+use Rattle.gs_plan.specs.declared.limits.Limits.{Limits}
 use Rattle.gs_program.specs.Program.{EndsWith}
 use Rattle.gossip_picture.specs.Arguments.{Wishes, usage}
 
@@ -20,8 +21,9 @@ abbrev pub printed : Wishes → Plan → Report → List ℕ
 printed w plan report = picture plan report (topic_in plan w.topic) w.among
 
 -- how the program ends, depending on what is asked for
-abbrev pub EndsFor : Option Wishes → (status : ℕ) (input input' output output' errors errors' : Option (List ℕ)) → Type 0
-EndsFor None status input input' output output' errors errors' =
+abbrev pub EndsFor
+    : Limits → Option Wishes → (status : ℕ) (input input' output output' errors errors' : Option (List ℕ)) → Type 0
+EndsFor limits None status input input' output output' errors errors' =
     IsMisused usage status input input' output output' errors errors'
-EndsFor (Some wishes) status input input' output output' errors errors' =
-    EndsWith (printed wishes) false false status input input' output output' errors errors'
+EndsFor limits (Some wishes) status input input' output output' errors errors' =
+    EndsWith limits (printed wishes) false false status input input' output output' errors errors'

@@ -1,7 +1,7 @@
 //! The program: it draws the run of the scenario that it reads.
 ghost use Rattle.std.specs.Prelude.{◌≡◌, false, IfOk, map, string_bytes};
 ghost use Rattle.std.specs.Process.{exit_status};
-ghost use Rattle.gs_program.specs.Program.{EndsWith};
+ghost use Rattle.gs_streams.specs.Arguments.{limits_for, options_in};
 ghost use Rattle.gossip_picture.specs.Arguments.{asked_for, name_in, wishes_of};
 ghost use Rattle.gossip_picture.specs.Printed.{EndsFor, printed, topic_in};
 
@@ -9,17 +9,19 @@ use crate::arguments::{Asked, Subject, asked_of, refuse};
 use bytes::Bytes;
 use gs_base::{Topic, clone_of};
 use gs_picture::{first_topic, picture_svg};
-use gs_plan::Plan;
+use gs_plan::{Limits, Plan};
 use gs_program::{PrintFault, Printer, Program, print_whole};
 use gs_report::Report;
+use gs_streams::limits_in;
 use std::alloc::{AllocError, Global};
 use std::io::{Read, Write};
 use std::process::ExitCode;
 
 /// Makes the picture of a run that is asked for.
 #[derive(Clone, Copy, Debug, Drop)]
-struct PictureOf<'a> {
-    asked: Asked<'a>,
+pub struct PictureOf<'a> {
+    /// The topic and the peers.
+    pub asked: Asked<'a>,
 }
 
 impl<'a> Printer for PictureOf<'a> {
@@ -78,35 +80,21 @@ where
     R: Read,
     W: Write,
     E: Write,
-    ensures { EndsFor (asked_for (map string_bytes arguments.now)) (exit_status result)
+    ensures { EndsFor (limits_for (map string_bytes arguments.now))
+        (asked_for (options_in (map string_bytes arguments.now))) (exit_status result)
         (R.remaining input.old) (R.remaining input.new)
         (W.contents output.old) (W.contents output.new) (E.contents errors.old) (E.contents errors.new) }
 {
-    match asked_of(arguments) {
-        Some(asked) => run_to_exit(alloc, asked, input, output, errors),
+    let (limits, options) = limits_in(arguments);
+    match asked_of(options) {
+        Some(asked) => {
+            let program = Program {
+                alloc,
+                limits,
+                printer: PictureOf { asked },
+            };
+            program.run_to_exit(input, output, errors)
+        }
         None => refuse(errors),
     }
-}
-
-/// Runs the program for the picture that is asked for, and returns the exit status of its process.
-pub fn run_to_exit<R, W, E>(
-    alloc: Global,
-    asked: Asked<'_>,
-    input: &mut R,
-    output: &mut W,
-    errors: &mut E,
-) -> ExitCode
-where
-    R: Read,
-    W: Write,
-    E: Write,
-    ensures { EndsWith (printed (wishes_of asked.entry)) false false (exit_status result)
-        (R.remaining input.old) (R.remaining input.new)
-        (W.contents output.old) (W.contents output.new) (E.contents errors.old) (E.contents errors.new) }
-{
-    let program = Program {
-        alloc,
-        printer: PictureOf { asked },
-    };
-    program.run_to_exit(input, output, errors)
 }

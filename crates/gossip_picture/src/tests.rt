@@ -1,7 +1,9 @@
 //! Pictures, worked out by hand.
 use crate::arguments::{Asked, Subject};
-use crate::program::run_to_exit;
+use crate::program::PictureOf;
 use gs_figure_sheets::Choice;
+use gs_plan::Limits;
+use gs_program::Program;
 use std::alloc::Global;
 use std::process::ExitCode;
 use std::test::*;
@@ -316,7 +318,12 @@ fn drawn(alloc: Global, scenario: &str, asked: Asked<'_>) -> Vec<u8> {
     let mut output = Vec::new(alloc);
     let mut errors = Vec::new(alloc);
     let mut input = scenario.as_bytes();
-    let code = run_to_exit(alloc, asked, &mut input, &mut output, &mut errors);
+    let program = Program {
+        alloc,
+        limits: Limits::Standard,
+        printer: PictureOf { asked },
+    };
+    let code = program.run_to_exit(&mut input, &mut output, &mut errors);
     if code == ExitCode::from(0) && errors.is_empty() {
         return output;
     }
@@ -360,13 +367,15 @@ fn markup_in_a_topic_is_escaped(rt: HostRuntime) {
 fn a_refused_scenario_has_no_picture(rt: HostRuntime) {
     let mut output = Vec::new(rt.alloc());
     let mut errors = Vec::new(rt.alloc());
-    let code = run_to_exit(
-        rt.alloc(),
-        by_all(Subject::First),
-        &mut b"rounds = 0\n".as_slice(),
-        &mut output,
-        &mut errors,
-    );
+    let program = Program {
+        alloc: rt.alloc(),
+        limits: Limits::Standard,
+        printer: PictureOf {
+            asked: by_all(Subject::First),
+        },
+    };
+    let mut input = b"rounds = 0\n".as_slice();
+    let code = program.run_to_exit(&mut input, &mut output, &mut errors);
     assert!(rt; code == ExitCode::from(1) && output.is_empty());
     assert!(rt; errors.as_slice() == b"scenario refused: 28 round_ms\n".as_slice());
 }

@@ -104,4 +104,4 @@ asked_for arguments = asked_from (Some (record { wishes = no_wish; is_summary = 
 -- the line that is written for wrong arguments
 unfoldable pub usage : List ℕ
 usage = codes
-    "usage: gossip_scores [--peer NAME] [--neighbour NAME] [--rounds A..B] [--format json|csv | --summary]\n"
+    "usage: gossip_scores [--large] [--peer NAME] [--neighbour NAME] [--rounds A..B] [--format json|csv | --summary]\n"

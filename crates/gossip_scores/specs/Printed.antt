@@ -2,6 +2,7 @@
 use Rattle.std.specs.Prelude.{ℕ, false, true, if◌then◌else◌, List, Option, Some, None}
 use Rattle.gs_plan.specs.declared.plan.Plan.{Plan}
 use Rattle.gs_program.specs.Arguments.{IsMisused}
+use Rattle.gs_plan.specs.declared.limits.Limits.{Limits}
 use Rattle.gs_program.specs.Program.{EndsWith}
 use Rattle.gs_program.specs.declared.printer.PrintFault.{PrintFault}
 use Rattle.gs_program.specs.declared.printer.PrintFault.TheVariants as prints
@@ -22,8 +23,9 @@ abbrev pub printed_for : Asked → Plan → Report → List ℕ
 printed_for a plan report =
     if a.is_summary then summary_text a.wishes plan report else scores_text a.wishes plan report
 
-abbrev pub EndsFor : Option Asked → (status : ℕ) (input input' output output' errors errors' : Option (List ℕ)) → Type 0
-EndsFor None status input input' output output' errors errors' =
+abbrev pub EndsFor
+    : Limits → Option Asked → (status : ℕ) (input input' output output' errors errors' : Option (List ℕ)) → Type 0
+EndsFor limits None status input input' output output' errors errors' =
     IsMisused usage status input input' output output' errors errors'
-EndsFor (Some asked) status input input' output output' errors errors' =
-    EndsWith (printed_for asked) true false status input input' output output' errors errors'
+EndsFor limits (Some asked) status input input' output output' errors errors' =
+    EndsWith limits (printed_for asked) true false status input input' output output' errors errors'

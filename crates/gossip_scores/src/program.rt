@@ -3,7 +3,7 @@ ghost use Rattle.std.specs.Io.KnownBytes.{Appends};
 ghost use Rattle.std.specs.Prelude.{◌≡◌, OnErr, OnOk, false, true, map, string_bytes};
 ghost use Rattle.std.specs.Process.{exit_status};
 ghost use Rattle.gs_plan.specs.Plans.{IsInRange};
-ghost use Rattle.gs_program.specs.Program.{EndsWith};
+ghost use Rattle.gs_streams.specs.Arguments.{limits_for, options_in};
 ghost use Rattle.gs_seats.specs.Reports.{IsReport};
 ghost use Rattle.gs_streams.specs.Streams.{AppendsFront};
 ghost use Rattle.gossip_scores.specs.Arguments.{asked_for, asked_of};
@@ -14,6 +14,7 @@ use gs_plan::Plan;
 use gs_program::{PrintFault, Printer, Program};
 use gs_report::Report;
 use gs_snapshots::{write_scores, write_summary};
+use gs_streams::limits_in;
 use gs_trace::TraceFault;
 use std::alloc::Global;
 use std::io::{Read, Write};
@@ -89,35 +90,21 @@ where
     R: Read,
     W: Write,
     E: Write,
-    ensures { EndsFor (asked_for (map string_bytes arguments.now)) (exit_status result)
+    ensures { EndsFor (limits_for (map string_bytes arguments.now))
+        (asked_for (options_in (map string_bytes arguments.now))) (exit_status result)
         (R.remaining input.old) (R.remaining input.new)
         (W.contents output.old) (W.contents output.new) (E.contents errors.old) (E.contents errors.new) }
 {
-    match asked_by(arguments) {
-        Some(asked) => run_to_exit(alloc, asked, input, output, errors),
+    let (limits, options) = limits_in(arguments);
+    match asked_by(options) {
+        Some(asked) => {
+            let program = Program {
+                alloc,
+                limits,
+                printer: ScoresOf { asked },
+            };
+            program.run_to_exit(input, output, errors)
+        }
         None => refuse(errors),
     }
-}
-
-/// Runs the program for what is asked for.
-fn run_to_exit<R, W, E>(
-    alloc: Global,
-    asked: Asked<'_>,
-    input: &mut R,
-    output: &mut W,
-    errors: &mut E,
-) -> ExitCode
-where
-    R: Read,
-    W: Write,
-    E: Write,
-    ensures { EndsWith (printed_for (asked_of asked.entry)) true false (exit_status result)
-        (R.remaining input.old) (R.remaining input.new)
-        (W.contents output.old) (W.contents output.new) (E.contents errors.old) (E.contents errors.new) }
-{
-    let program = Program {
-        alloc,
-        printer: ScoresOf { asked },
-    };
-    program.run_to_exit(input, output, errors)
 }

@@ -1,6 +1,7 @@
 -- What two runs of the program write.
 use Rattle.std.specs.Prelude.{◌≡◌, ℕ, Bool, false, List, Option}
 use Rattle.std.specs.Io.KnownBytes.{Appends}
+use Rattle.gs_plan.specs.declared.limits.Limits.{Limits}
 use Rattle.gs_report.specs.Text.{report_text}
 use Rattle.gs_laws.specs.Runs.{AreAlike}
 use Rattle.gs_laws.specs.Scenarios.{DifferInRunning}
@@ -16,10 +17,11 @@ AddTheSame output output' other other' = (text : List ℕ) × Appends output out
 -- same, and both runs add the same bytes.
 abbrev pub AlikePlansWriteTheSame : Type 0
 AlikePlansWriteTheSame =
+    (limits others : Limits)
     (input input' output output' errors errors' : Option (List ℕ))
     (more more' other other' faults faults' : Option (List ℕ))
-    (mine : Reported report_text input input' output output' errors errors')
-    (theirs : Reported report_text more more' other other' faults faults')
+    (mine : Reported limits report_text input input' output output' errors errors')
+    (theirs : Reported others report_text more more' other other' faults faults')
     → AreAlike mine.plan theirs.plan
     → (report_text mine.plan mine.report ≡ report_text theirs.plan theirs.report)
     × AddTheSame output output' other other'
@@ -28,11 +30,12 @@ AlikePlansWriteTheSame =
 -- and `capacity`. Then the texts of their reports are the same, and both runs add the same bytes.
 abbrev pub AlikeScenariosWriteTheSame : Type 0
 AlikeScenariosWriteTheSame =
+    (limits others : Limits)
     (input input' output output' errors errors' : Option (List ℕ))
     (more more' other other' faults faults' : Option (List ℕ))
     (first_needs_threads second_needs_threads : Bool)
-    (mine : EndsAs report_text false first_needs_threads ends.Reported input input' output output' errors errors')
-    (theirs : EndsAs report_text false second_needs_threads ends.Reported more more' other other' faults faults')
+    (mine : EndsAs limits report_text false first_needs_threads ends.Reported input input' output output' errors errors')
+    (theirs : EndsAs others report_text false second_needs_threads ends.Reported more more' other other' faults faults')
     → DifferInRunning mine.scenario.text theirs.scenario.text
     → (report_text mine.plan mine.report ≡ report_text theirs.plan theirs.report)
     × AddTheSame output output' other other'

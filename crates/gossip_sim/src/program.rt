@@ -3,12 +3,12 @@ ghost use Rattle.std.specs.Prelude.{false, map, string_bytes, true};
 ghost use Rattle.std.specs.Process.{exit_status};
 ghost use Rattle.gs_report.specs.Text.{report_text};
 ghost use Rattle.gs_program.specs.Program.{EndsAs, EndsWith};
-ghost use Rattle.gossip_sim.specs.Arguments.{EndsFor, asked_for, needs_threads};
+ghost use Rattle.gossip_sim.specs.Arguments.{EndsFor, asked_for, limits_of, needs_threads};
 
 use crate::arguments::{Way, asked_by, refuse};
 use gs_net::run_net;
 use gs_peer::{Gate, NoGate};
-use gs_plan::Plan;
+use gs_plan::{Limits, Plan};
 use gs_program::{ExitStatus, PrintFault, Printer, Program, print_whole};
 use gs_report::{Report, report_text};
 use std::alloc::{AllocGlobal, Global};
@@ -39,8 +39,8 @@ impl Printer for Lines {
 }
 
 /// Runs the program with these arguments over these streams, and returns the exit status of its process. It runs peers over
-/// links, or with `--direct` without links. It refuses other arguments: then it reads no input, writes the usage line or a
-/// front of it to `errors`, and ends with 64.
+/// links, or with `--direct` without links. With `--direct` and `--large` it takes the large limits. It refuses other
+/// arguments: then it reads no input, writes the usage or a front of it to `errors`, and ends with 64.
 pub fn run_for<T, R, W, E>(
     rt: &T,
     arguments: &[String],
@@ -76,13 +76,15 @@ where
     R: Read,
     W: Write,
     E: Write,
-    ensures { EndsWith report_text false (needs_threads way) (exit_status result)
+    ensures { EndsWith (limits_of way) report_text false (needs_threads way) (exit_status result)
         (R.remaining input.old) (R.remaining input.new)
         (W.contents output.old) (W.contents output.new) (E.contents errors.old) (E.contents errors.new) }
 {
     match way {
         Way::OverLinks => ExitCode::from(run(rt, &NoGate, input, output, errors)),
-        Way::WithoutLinks => ExitCode::from(run_direct(rt.alloc(), input, output, errors)),
+        Way::WithoutLinks(limits) => {
+            ExitCode::from(run_direct(rt.alloc(), limits, input, output, errors))
+        },
     }
 }
 
@@ -102,11 +104,12 @@ where
     R: Read,
     W: Write,
     E: Write,
-    ensures { EndsAs report_text false true result (R.remaining input.old) (R.remaining input.new)
+    ensures { EndsAs Limits.Standard report_text false true result (R.remaining input.old) (R.remaining input.new)
         (W.contents output.old) (W.contents output.new) (E.contents errors.old) (E.contents errors.new) }
 {
     let program = Program {
         alloc: rt.alloc(),
+        limits: Limits::Standard,
         printer: Lines,
     };
     match program.read(input, errors) {
@@ -122,6 +125,7 @@ where
 /// no report, it writes a line with the reason, or a front of that line, to `errors`.
 pub fn run_direct<R, W, E>(
     alloc: Global,
+    limits: Limits,
     input: &mut R,
     output: &mut W,
     errors: &mut E,
@@ -130,11 +134,12 @@ where
     R: Read,
     W: Write,
     E: Write,
-    ensures { EndsAs report_text false false result (R.remaining input.old) (R.remaining input.new)
+    ensures { EndsAs limits report_text false false result (R.remaining input.old) (R.remaining input.new)
         (W.contents output.old) (W.contents output.new) (E.contents errors.old) (E.contents errors.new) }
 {
     let program = Program {
         alloc,
+        limits,
         printer: Lines,
     };
     program.run(input, output, errors)

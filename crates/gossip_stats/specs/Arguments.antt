@@ -196,4 +196,4 @@ is_group_option name = same_bytes name (codes "--group")
 -- the line that is written for wrong arguments
 unfoldable pub usage : List ℕ
 usage = codes
-    "usage: gossip_stats [--by PEERS | --rounds | --topics | --links] [--of PEERS] [--group NAME=PEERS].. [--csv | --json]\n"
+    "usage: gossip_stats [--large] [--by PEERS|--rounds|--topics|--links] [--of PEERS] [--group NAME=PEERS].. [--csv|--json]\n"

@@ -5,7 +5,7 @@ ghost use Rattle.std.specs.Process.{exit_status};
 ghost use Rattle.gs_base.specs.declared.names.PeerNo.{PeerNo as PeerNoValue};
 ghost use Rattle.gs_figure_sheets.specs.Parties.{group_wish};
 ghost use Rattle.gs_plan.specs.Plans.{IsInRange};
-ghost use Rattle.gs_program.specs.Program.{EndsWith};
+ghost use Rattle.gs_streams.specs.Arguments.{limits_for, options_in};
 ghost use Rattle.gs_report.specs.declared.finished.Finished.{Finished as FinishedValue};
 ghost use Rattle.gs_router.specs.Following.{AreInOrder};
 ghost use Rattle.gossip_stats.specs.Arguments.{asked_for, group_of, wishes_of};
@@ -19,6 +19,7 @@ use gs_program::{PrintFault, Printer, Program, print_whole};
 use gs_report::Report;
 use gs_seats::traces_of_a_report_are_in_order;
 use gs_sheets::{Sheet, sheets_csv, sheets_json, sheets_table};
+use gs_streams::limits_in;
 use std::alloc::{AllocError, Global};
 use std::io::{Read, Write};
 use std::process::ExitCode;
@@ -124,35 +125,21 @@ where
     R: Read,
     W: Write,
     E: Write,
-    ensures { EndsFor (asked_for (map string_bytes arguments.now)) (exit_status result)
+    ensures { EndsFor (limits_for (map string_bytes arguments.now))
+        (asked_for (options_in (map string_bytes arguments.now))) (exit_status result)
         (R.remaining input.old) (R.remaining input.new)
         (W.contents output.old) (W.contents output.new) (E.contents errors.old) (E.contents errors.new) }
 {
-    match asked_by(arguments) {
-        Some(asked) => run_to_exit(alloc, asked, input, output, errors),
+    let (limits, options) = limits_in(arguments);
+    match asked_by(options) {
+        Some(asked) => {
+            let program = Program {
+                alloc,
+                limits,
+                printer: FiguresOf { asked },
+            };
+            program.run_to_exit(input, output, errors)
+        }
         None => refuse(errors),
     }
-}
-
-/// Runs the program for what is asked for.
-fn run_to_exit<R, W, E>(
-    alloc: Global,
-    asked: Asked<'_>,
-    input: &mut R,
-    output: &mut W,
-    errors: &mut E,
-) -> ExitCode
-where
-    R: Read,
-    W: Write,
-    E: Write,
-    ensures { EndsWith (printed (wishes_of asked.entry)) false false (exit_status result)
-        (R.remaining input.old) (R.remaining input.new)
-        (W.contents output.old) (W.contents output.new) (E.contents errors.old) (E.contents errors.new) }
-{
-    let program = Program {
-        alloc,
-        printer: FiguresOf { asked },
-    };
-    program.run_to_exit(input, output, errors)
 }

@@ -1,6 +1,7 @@
 -- How the program ends by what its arguments ask for.
 use Rattle.std.specs.Prelude.{ℕ, false, true, List, Option, Some, None}
 use Rattle.gs_program.specs.Arguments.{IsMisused}
+use Rattle.gs_plan.specs.declared.limits.Limits.{Limits}
 use Rattle.gs_program.specs.Program.{EndsWith}
 use Rattle.gs_program.specs.declared.printer.PrintFault.{PrintFault}
 use Rattle.gs_program.specs.declared.printer.PrintFault.TheVariants as prints
@@ -14,8 +15,9 @@ abbrev pub as_printed : TraceFault → PrintFault
 as_printed faults.NoMemory = prints.CutOff
 as_printed faults.WriteFailed = prints.WriteFailed
 
-abbrev pub EndsFor : Option Wishes → (status : ℕ) (input input' output output' errors errors' : Option (List ℕ)) → Type 0
-EndsFor None status input input' output output' errors errors' =
+abbrev pub EndsFor
+    : Limits → Option Wishes → (status : ℕ) (input input' output output' errors errors' : Option (List ℕ)) → Type 0
+EndsFor limits None status input input' output output' errors errors' =
     IsMisused usage status input input' output output' errors errors'
-EndsFor (Some wishes) status input input' output output' errors errors' =
-    EndsWith (wanted_text wishes) true false status input input' output output' errors errors'
+EndsFor limits (Some wishes) status input input' output output' errors errors' =
+    EndsWith limits (wanted_text wishes) true false status input input' output output' errors errors'

@@ -1,7 +1,7 @@
 //! The program: it writes the trace of the run of the scenario that it reads.
 ghost use Rattle.std.specs.Prelude.{◌≡◌, false, true, map, string_bytes};
 ghost use Rattle.std.specs.Process.{exit_status};
-ghost use Rattle.gs_program.specs.Program.{EndsWith};
+ghost use Rattle.gs_streams.specs.Arguments.{limits_for, options_in};
 ghost use Rattle.gs_trace.specs.Wanted.{wanted_text, wishes_of};
 ghost use Rattle.gossip_trace.specs.Arguments.{asked_for};
 ghost use Rattle.gossip_trace.specs.Printed.{EndsFor, as_printed};
@@ -11,6 +11,7 @@ use gs_plan::Plan;
 use gs_program::{PrintFault, Printer, Program};
 use gs_report::Report;
 use gs_seats::traces_of_a_report_are_in_order;
+use gs_streams::limits_in;
 use gs_trace::{TraceFault, Wanted, write_trace};
 use std::alloc::Global;
 use std::io::{Read, Write};
@@ -67,35 +68,21 @@ where
     R: Read,
     W: Write,
     E: Write,
-    ensures { EndsFor (asked_for (map string_bytes arguments.now)) (exit_status result)
+    ensures { EndsFor (limits_for (map string_bytes arguments.now))
+        (asked_for (options_in (map string_bytes arguments.now))) (exit_status result)
         (R.remaining input.old) (R.remaining input.new)
         (W.contents output.old) (W.contents output.new) (E.contents errors.old) (E.contents errors.new) }
 {
-    match asked_by(arguments) {
-        Some(wanted) => run_to_exit(alloc, wanted, input, output, errors),
+    let (limits, options) = limits_in(arguments);
+    match asked_by(options) {
+        Some(wanted) => {
+            let program = Program {
+                alloc,
+                limits,
+                printer: TraceOf { wanted },
+            };
+            program.run_to_exit(input, output, errors)
+        }
         None => refuse(errors),
     }
-}
-
-/// Runs the program for the lines that are asked for.
-fn run_to_exit<R, W, E>(
-    alloc: Global,
-    wanted: Wanted<'_>,
-    input: &mut R,
-    output: &mut W,
-    errors: &mut E,
-) -> ExitCode
-where
-    R: Read,
-    W: Write,
-    E: Write,
-    ensures { EndsWith (wanted_text (wishes_of wanted.entry)) true false (exit_status result)
-        (R.remaining input.old) (R.remaining input.new)
-        (W.contents output.old) (W.contents output.new) (E.contents errors.old) (E.contents errors.new) }
-{
-    let program = Program {
-        alloc,
-        printer: TraceOf { wanted },
-    };
-    program.run_to_exit(input, output, errors)
 }

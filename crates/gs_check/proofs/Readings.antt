@@ -4,7 +4,8 @@ use Rattle.gs_scenario.specs.Refusal.{number_of}
 use Rattle.gs_streams.specs.declared.ReadFault.{ReadFault}
 use Rattle.gs_streams.specs.declared.ReadFault.TheVariants as reads
 use Rattle.gs_streams.specs.Inputs.{IsRefusal, input_too_long, too_long}
-use Rattle.gs_streams.specs.Streams.{longest_input}
+use Rattle.gs_plan.specs.Limits.{longest_input}
+use Rattle.gs_plan.specs.declared.limits.Limits.{Limits}
 use Rattle.gs_check.specs.declared.answer.Answer.{Answer}
 use Rattle.gs_check.specs.declared.answer.NoAnswer.{NoAnswer}
 use Rattle.gs_check.specs.declared.answer.Verdict.{Verdict}
@@ -22,8 +23,8 @@ of_each : (input : Option (List ℕ)) (P Q : List ℕ → Type 0) → ((bytes : 
 of_each None P Q f p = tt
 of_each (Some given) P Q f p = f given p
 
-scenario_of : (input : Option (List ℕ)) (bytes text : List ℕ) → IfSome input (λ given. bytes ≡ given) → Accepts (Some bytes) text → Accepts input text
-scenario_of input bytes text whole says = record {
+scenario_of : (limits : Limits) (input : Option (List ℕ)) (bytes text : List ℕ) → IfSome input (λ given. bytes ≡ given) → Accepts limits (Some bytes) text → Accepts limits input text
+scenario_of limits input bytes text whole says = record {
   plan = says.plan;
   scenario = record {
     text = says.scenario.text;
@@ -35,33 +36,33 @@ scenario_of input bytes text whole says = record {
   text = says.text;
 }
 
-answers_input : (verdict : Verdict) (input : Option (List ℕ)) (bytes text : List ℕ) → IfSome input (λ given. bytes ≡ given) → Answers verdict (Some bytes) text → Answers verdict input text
-answers_input verdicts.Accepted input bytes text whole says = scenario_of input bytes text whole says
-answers_input verdicts.Refused input bytes text whole says = record {
+answers_input : (limits : Limits) (verdict : Verdict) (input : Option (List ℕ)) (bytes text : List ℕ) → IfSome input (λ given. bytes ≡ given) → Answers limits verdict (Some bytes) text → Answers limits verdict input text
+answers_input limits verdicts.Accepted input bytes text whole says = scenario_of limits input bytes text whole says
+answers_input limits verdicts.Refused input bytes text whole says = record {
   fault = says.fault;
-  refused = of_input input bytes (λ given. IsRefusal given says.fault) whole says.refused;
+  refused = of_input input bytes (λ given. IsRefusal limits given says.fault) whole says.refused;
   judged = says.judged;
   text = says.text;
 }
-answers_input verdicts.NoMemory input bytes text whole says = says
+answers_input limits verdicts.NoMemory input bytes text whole says = says
 
 -- what is answered to an input that is too long
-too_long_answers : (input : Option (List ℕ)) (answer : Answer) → IfSome input (λ given. longest_input < length given)
-    → (answer.verdict ≡ verdicts.Refused) × (number_of input_too_long ≢ 32) × IsRefusalText input_too_long answer.text.items → Answers answer.verdict input answer.text.items
-too_long_answers input answer far (is, judged, says) =
-    subst (λ (verdict : Verdict). Answers verdict input answer.text.items) (sym is)
+too_long_answers : (limits : Limits) (input : Option (List ℕ)) (answer : Answer) → IfSome input (λ given. longest_input limits < length given)
+    → (answer.verdict ≡ verdicts.Refused) × (number_of (input_too_long limits) ≢ 32) × IsRefusalText (input_too_long limits) answer.text.items → Answers limits answer.verdict input answer.text.items
+too_long_answers limits input answer far (is, judged, says) =
+    subst (λ (verdict : Verdict). Answers limits verdict input answer.text.items) (sym is)
     (record {
-      fault = input_too_long;
-      refused = of_each input (λ given. longest_input < length given) (λ bytes. IsRefusal bytes input_too_long) (λ given beyond. too_long beyond refl) far;
+      fault = input_too_long limits;
+      refused = of_each input (λ given. longest_input limits < length given) (λ bytes. IsRefusal limits bytes (input_too_long limits)) (λ given beyond. too_long beyond refl) far;
       judged = judged;
       text = says;
     })
 
-pub answers_reading : (input : Option (List ℕ)) (reading : Result (Vec ℕ Global) ReadFault) (made : Result Answer NoAnswer) → IfOk reading (λ bytes. AnswersText bytes.items made)
-    → IfErr reading (λ fault. AnswersUnread fault made) → IsReading input reading → IfOk made (λ answer. Answers answer.verdict input answer.text.items)
-answers_reading input (Ok bytes) (Ok answer) read unread whole = answers_input answer.verdict input bytes.items answer.text.items whole read.1
-answers_reading input (Ok bytes) (Err why) read unread whole = tt
-answers_reading input (Err reads.Failed) made read unread whole = subst (λ (m : Result Answer NoAnswer). IfOk m (λ answer. Answers answer.verdict input answer.text.items)) (sym unread) tt
-answers_reading input (Err reads.TooLong) (Ok answer) read unread far = too_long_answers input answer far unread
-answers_reading input (Err reads.TooLong) (Err why) read unread far = tt
-answers_reading input (Err reads.NoMemory) made read unread whole = subst (λ (m : Result Answer NoAnswer). IfOk m (λ answer. Answers answer.verdict input answer.text.items)) (sym unread) tt
+pub answers_reading : (limits : Limits) (input : Option (List ℕ)) (reading : Result (Vec ℕ Global) ReadFault) (made : Result Answer NoAnswer) → IfOk reading (λ bytes. AnswersText limits bytes.items made)
+    → IfErr reading (λ fault. AnswersUnread limits fault made) → IsReading limits input reading → IfOk made (λ answer. Answers limits answer.verdict input answer.text.items)
+answers_reading limits input (Ok bytes) (Ok answer) read unread whole = answers_input limits answer.verdict input bytes.items answer.text.items whole read.1
+answers_reading limits input (Ok bytes) (Err why) read unread whole = tt
+answers_reading limits input (Err reads.Failed) made read unread whole = subst (λ (m : Result Answer NoAnswer). IfOk m (λ answer. Answers limits answer.verdict input answer.text.items)) (sym unread) tt
+answers_reading limits input (Err reads.TooLong) (Ok answer) read unread far = too_long_answers limits input answer far unread
+answers_reading limits input (Err reads.TooLong) (Err why) read unread far = tt
+answers_reading limits input (Err reads.NoMemory) made read unread whole = subst (λ (m : Result Answer NoAnswer). IfOk m (λ answer. Answers limits answer.verdict input answer.text.items)) (sym unread) tt

@@ -1,6 +1,7 @@
 -- How a run of the program ends, and what it has written by then.
-use Rattle.std.specs.Prelude.{◌≡◌, ◌≢◌, ℕ, List, ◌++◌, codes, Option, IfSome}
+use Rattle.std.specs.Prelude.{◌≡◌, ◌≢◌, ℕ, List, [], ◌∷◌, ◌++◌, codes, Option, IfSome}
 use Rattle.std.specs.Io.KnownBytes.{Appends, Keeps}
+use Rattle.gs_plan.specs.declared.limits.Limits.{Limits}
 use Rattle.gs_plan.specs.declared.plan.Plan.{Plan}
 use Rattle.gs_scenario.specs.declared.fault.ScenarioFault.{ScenarioFault}
 use Rattle.gs_scenario.specs.Refusal.{number_of}
@@ -25,34 +26,34 @@ abbrev pub no_memory_answer : List ℕ
 no_memory_answer =
     codes "32\nthere is not enough memory to read the scenario, or to say what is wrong with it\n"
 
--- the answer is the summary of the plan that the whole input describes
-pub record Accepts (input : Option (List ℕ)) (answer : List ℕ) : Type 0 where
+-- the answer is the summary of the plan that the whole input describes within these limits
+pub record Accepts (limits : Limits) (input : Option (List ℕ)) (answer : List ℕ) : Type 0 where
   pub plan : Plan
-  pub scenario : IsScenario input plan
+  pub scenario : IsScenario limits input plan
   pub text : answer ≡ summary plan
 
 -- The answer begins with the number and the place of the input's refusal, and words follow. The refusal is not 32, out of
 -- memory.
-pub record Refuses (input : Option (List ℕ)) (answer : List ℕ) : Type 0 where
+pub record Refuses (limits : Limits) (input : Option (List ℕ)) (answer : List ℕ) : Type 0 where
   pub fault : ScenarioFault
-  pub refused : IfSome input (λ bytes. IsRefusal bytes fault)
+  pub refused : IfSome input (λ bytes. IsRefusal limits bytes fault)
   pub judged : number_of fault ≢ 32
   pub text : IsRefusalText fault answer
 
 -- what an answer with this verdict says about an input
-abbrev pub Answers : Verdict → Option (List ℕ) → List ℕ → Type 0
-Answers verdicts.Accepted input answer = Accepts input answer
-Answers verdicts.Refused input answer = Refuses input answer
-Answers verdicts.NoMemory input answer = answer ≡ no_memory_answer
+abbrev pub Answers : Limits → Verdict → Option (List ℕ) → List ℕ → Type 0
+Answers limits verdicts.Accepted input answer = Accepts limits input answer
+Answers limits verdicts.Refused input answer = Refuses limits input answer
+Answers limits verdicts.NoMemory input answer = answer ≡ no_memory_answer
 
 -- ---- ends
 
 -- For each end: the reader had `input` left to read. Each writer held the first text before, and the second after.
 
 -- the answer to the input is on the output, and nothing more on errors
-pub record Answered (verdict : Verdict) (input output output' errors errors' : Option (List ℕ)) : Type 0 where
+pub record Answered (limits : Limits) (verdict : Verdict) (input output output' errors errors' : Option (List ℕ)) : Type 0 where
   pub answer : List ℕ
-  pub answers : Answers verdict input answer
+  pub answers : Answers limits verdict input answer
   pub text : Appends output output' answer
   pub silent : Keeps errors errors'
 
@@ -62,18 +63,19 @@ pub record InputFailed (output output' errors errors' : Option (List ℕ)) : Typ
   pub silent : Keeps output output'
 
 -- a front of the answer to the input is on the output, and then the output failed
-pub record OutputFailed (input output output' errors errors' : Option (List ℕ)) : Type 0 where
+pub record OutputFailed (limits : Limits) (input output output' errors errors' : Option (List ℕ)) : Type 0 where
   pub verdict : Verdict
   pub answer : List ℕ
-  pub answers : Answers verdict input answer
+  pub answers : Answers limits verdict input answer
   pub text : AppendsFront output output' answer
   pub line : AppendsFront errors errors' (codes "output failed\n")
 
 -- what each status says
-abbrev pub EndsAs : ExitStatus → (input output output' errors errors' : Option (List ℕ)) → Type 0
-EndsAs (ends.Answered verdict) input output output' errors errors' = Answered verdict input output output' errors errors'
-EndsAs ends.InputFailed input output output' errors errors' = InputFailed output output' errors errors'
-EndsAs ends.OutputFailed input output output' errors errors' = OutputFailed input output output' errors errors'
+abbrev pub EndsAs : Limits → ExitStatus → (input output output' errors errors' : Option (List ℕ)) → Type 0
+EndsAs limits (ends.Answered verdict) input output output' errors errors' =
+    Answered limits verdict input output output' errors errors'
+EndsAs limits ends.InputFailed input output output' errors errors' = InputFailed output output' errors errors'
+EndsAs limits ends.OutputFailed input output output' errors errors' = OutputFailed limits input output output' errors errors'
 
 -- the status that the process ends with
 abbrev pub status_of : ExitStatus → ℕ
@@ -82,3 +84,34 @@ status_of (ends.Answered verdicts.Refused) = 1
 status_of (ends.Answered verdicts.NoMemory) = 2
 status_of ends.InputFailed = 3
 status_of ends.OutputFailed = 3
+
+-- ---- arguments
+
+-- what is written for wrong arguments
+abbrev pub usage : List ℕ
+usage = codes "usage: gossip_check [--large]\n"
+
+-- the status for wrong arguments, as in sysexits.h (EX_USAGE)
+abbrev pub wrong_arguments : ℕ
+wrong_arguments = 64
+
+-- some end of the program, and the status for it
+pub record EndsSomehow (limits : Limits) (status : ℕ) (input output output' errors errors' : Option (List ℕ)) : Type 0 where
+  pub ended : ExitStatus
+  pub ends : EndsAs limits ended input output output' errors errors'
+  pub status_is : status ≡ status_of ended
+
+-- nothing of the input is read; the usage is on errors, or a front of it, and nothing more on the output
+pub record IsMisused (status : ℕ) (input input' output output' errors errors' : Option (List ℕ)) : Type 0 where
+  pub unread : input' ≡ input
+  pub told : AppendsFront errors errors' usage
+  pub silent : Keeps output output'
+  pub status_is : status ≡ wrong_arguments
+
+-- how the program ends within these limits, with these arguments after those for the limits
+abbrev pub EndsFor
+    : Limits → List (List ℕ) → (status : ℕ) (input input' output output' errors errors' : Option (List ℕ)) → Type 0
+EndsFor limits [] status input input' output output' errors errors' =
+    EndsSomehow limits status input output output' errors errors'
+EndsFor limits (option ∷ options) status input input' output output' errors errors' =
+    IsMisused status input input' output output' errors errors'

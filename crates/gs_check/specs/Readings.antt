@@ -6,7 +6,8 @@ use Rattle.gs_scenario.specs.Refusal.{number_of}
 use Rattle.gs_streams.specs.declared.ReadFault.{ReadFault}
 use Rattle.gs_streams.specs.declared.ReadFault.TheVariants as reads
 use Rattle.gs_streams.specs.Inputs.{input_too_long}
-use Rattle.gs_streams.specs.Streams.{longest_input}
+use Rattle.gs_plan.specs.Limits.{longest_input}
+use Rattle.gs_plan.specs.declared.limits.Limits.{Limits}
 use Rattle.gs_check.specs.declared.answer.Answer.{Answer}
 use Rattle.gs_check.specs.declared.answer.NoAnswer.{NoAnswer}
 use Rattle.gs_check.specs.declared.answer.NoAnswer.TheVariants as causes
@@ -16,11 +17,11 @@ use Rattle.gs_check.specs.declared.program.ExitStatus.TheVariants as ends
 use Rattle.gs_check.specs.Program.{Answers, IsRefusalText}
 
 -- it is a reading of this input: it has read all of it, or says that it is too long only where it is
-abbrev pub IsReading : Option (List ℕ) → Result (Vec ℕ Global) ReadFault → Type 0
-IsReading input (Ok bytes) = IfSome input (λ given. bytes.items ≡ given)
-IsReading input (Err reads.Failed) = ⊤
-IsReading input (Err reads.TooLong) = IfSome input (λ given. longest_input < length given)
-IsReading input (Err reads.NoMemory) = ⊤
+abbrev pub IsReading : Limits → Option (List ℕ) → Result (Vec ℕ Global) ReadFault → Type 0
+IsReading limits input (Ok bytes) = IfSome input (λ given. bytes.items ≡ given)
+IsReading limits input (Err reads.Failed) = ⊤
+IsReading limits input (Err reads.TooLong) = IfSome input (λ given. longest_input limits < length given)
+IsReading limits input (Err reads.NoMemory) = ⊤
 
 -- ---- answers
 
@@ -31,15 +32,16 @@ RefusesAs fault (Ok answer) =
 RefusesAs fault (Err why) = why ≡ causes.NoMemory
 
 -- the answer to an input that was not read to its end
-abbrev pub AnswersUnread : ReadFault → Result Answer NoAnswer → Type 0
-AnswersUnread reads.Failed made = made ≡ Err causes.InputFailed
-AnswersUnread reads.TooLong made = RefusesAs input_too_long made
-AnswersUnread reads.NoMemory made = made ≡ Err causes.NoMemory
+abbrev pub AnswersUnread : Limits → ReadFault → Result Answer NoAnswer → Type 0
+AnswersUnread limits reads.Failed made = made ≡ Err causes.InputFailed
+AnswersUnread limits reads.TooLong made = RefusesAs (input_too_long limits) made
+AnswersUnread limits reads.NoMemory made = made ≡ Err causes.NoMemory
 
 -- the answer to the bytes of a whole input: a verdict, or out of memory
-abbrev pub AnswersText : List ℕ → Result Answer NoAnswer → Type 0
-AnswersText bytes (Ok answer) = (answer.verdict ≢ verdicts.NoMemory) × Answers answer.verdict (Some bytes) answer.text.items
-AnswersText bytes (Err why) = why ≡ causes.NoMemory
+abbrev pub AnswersText : Limits → List ℕ → Result Answer NoAnswer → Type 0
+AnswersText limits bytes (Ok answer) =
+    (answer.verdict ≢ verdicts.NoMemory) × Answers limits answer.verdict (Some bytes) answer.text.items
+AnswersText limits bytes (Err why) = why ≡ causes.NoMemory
 
 -- ---- ends
 

@@ -2,11 +2,13 @@ ghost use Rattle.std.specs.Prelude.{◌≡◌, ◌≤◌, Err, IfErr, IfOk, List
 ghost use Rattle.gs_scenario.specs.declared.fault.ScenarioFault.TheVariants.{NoMemory};
 ghost use Rattle.gs_check.specs.Program.{Answers, IsRefusalText, no_memory_answer};
 ghost use Rattle.gs_check.specs.Readings.{AnswersText, AnswersUnread, RefusesAs};
-ghost use Rattle.gs_streams.specs.Streams.{longest_input};
+ghost use Rattle.gs_plan.specs.Limits.{longest_input};
+ghost use Rattle.gs_plan.specs.declared.limits.Limits.{Limits as LimitsValue};
 
 use crate::first_line::first_line;
 use crate::reasons::reason;
 use crate::summary::summary;
+use gs_plan::Limits;
 use gs_scenario::ScenarioFault;
 use gs_streams::{ReadFault, input_too_long, plan_from};
 use std::alloc::{AllocError, Global};
@@ -42,38 +44,42 @@ pub enum NoAnswer {
     NoMemory,
 }
 
-/// Returns the answer to what was read of an input.
+/// Returns the answer to what was read of an input, which is a scenario within these limits.
 ///
 /// # Errors
 /// `InputFailed` if a read failed, or if the input had not ended after `MOST_READS` reads. `NoMemory` when out of memory.
-pub fn answer_after(alloc: Global, reading: Result<Vec<u8>, ReadFault>) -> Result<Answer, NoAnswer>
-    requires short { IfOk reading (λ bytes. length bytes.items ≤ longest_input) }
-    ensures read { IfOk reading (λ bytes. AnswersText bytes.items result) }
-    ensures unread { IfErr reading (λ fault. AnswersUnread fault result) }
+pub fn answer_after(
+    alloc: Global,
+    limits: Limits,
+    reading: Result<Vec<u8>, ReadFault>,
+) -> Result<Answer, NoAnswer>
+    requires short { IfOk reading (λ bytes. length bytes.items ≤ longest_input limits) }
+    ensures read { IfOk reading (λ bytes. AnswersText limits bytes.items result) }
+    ensures unread { IfErr reading (λ fault. AnswersUnread limits fault result) }
 {
     match reading {
-        Ok(bytes) => answer_of(alloc, &bytes),
-        Err(fault) => answer_unread(alloc, fault),
+        Ok(bytes) => answer_of(alloc, limits, &bytes),
+        Err(fault) => answer_unread(alloc, limits, fault),
     }
 }
 
 /// Returns the answer to an input that was not read to its end.
-fn answer_unread(alloc: Global, fault: ReadFault) -> Result<Answer, NoAnswer>
-    ensures { AnswersUnread fault result }
+fn answer_unread(alloc: Global, limits: Limits, fault: ReadFault) -> Result<Answer, NoAnswer>
+    ensures { AnswersUnread limits fault result }
 {
     match fault {
         ReadFault::Failed => Err(NoAnswer::InputFailed),
-        ReadFault::TooLong => refusal_of(alloc, b"", &input_too_long(alloc)),
+        ReadFault::TooLong => refusal_of(alloc, b"", &input_too_long(alloc, limits)),
         ReadFault::NoMemory => Err(NoAnswer::NoMemory),
     }
 }
 
 /// Returns the answer to the bytes of a whole input.
-fn answer_of(alloc: Global, bytes: &[u8]) -> Result<Answer, NoAnswer>
-    requires { length bytes.now ≤ longest_input }
-    ensures { AnswersText bytes.now result }
+fn answer_of(alloc: Global, limits: Limits, bytes: &[u8]) -> Result<Answer, NoAnswer>
+    requires { length bytes.now ≤ longest_input limits }
+    ensures { AnswersText limits bytes.now result }
 {
-    match plan_from(alloc, bytes) {
+    match plan_from(alloc, limits, bytes) {
         Ok(plan) => answered(Verdict::Accepted, summary(alloc, &plan)),
         Err(fault) => refusal_of(alloc, bytes, &fault),
     }
@@ -111,10 +117,10 @@ fn refusal_text(alloc: Global, bytes: &[u8], fault: &ScenarioFault) -> Result<Ve
     Ok(text)
 }
 
-/// No input is both accepted and refused.
+/// No input is both accepted and refused within the same limits.
 pub fn no_input_is_accepted_and_refused()
-    ensures { (bytes one other : List ℕ)
-        → Answers Verdict.Accepted (Some bytes) one → Answers Verdict.Refused (Some bytes) other → ⊥ }
+    ensures { (limits : LimitsValue) (bytes one other : List ℕ)
+        → Answers limits Verdict.Accepted (Some bytes) one → Answers limits Verdict.Refused (Some bytes) other → ⊥ }
 {}
 
 /// The answer when out of memory is the text that the definitions give.

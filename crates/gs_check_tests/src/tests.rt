@@ -12,11 +12,12 @@ use crate::tests::params::{BOUNDS, BOUNDS_OF_TOPIC, Bounds, OF_TOPIC, OutOfRange
 use crate::tests::values::{NAMES, VALUES};
 use gs_check::{
     ExitStatus, NO_MEMORY_ANSWER, Verdict, answer_without_memory, no_input_is_accepted_and_refused,
-    plain_places_are_shown_as_they_stand, run,
+    plain_places_are_shown_as_they_stand, refuse_unread, run, run_for,
 };
+use gs_plan::Limits;
 use gs_streams::fakes::{Broken, Narrow};
 use std::alloc::{AllocError, Global};
-use std::io::Read;
+use std::io::{ErrorKind, Read};
 use std::process::{Abort, ExitCode};
 
 /// Returns the scenario with the second text instead of the first one, at its first place.
@@ -31,7 +32,7 @@ fn changed(alloc: Global, old: &str, new: &str) -> Result<String, AllocError> {
 fn ends<R: Read>(alloc: Global, input: &mut R, status: u8, output: &str, errors: &str) -> bool {
     let mut out = Vec::new(alloc);
     let mut err = Vec::new(alloc);
-    let ended = run(alloc, input, &mut out, &mut err);
+    let ended = run(alloc, Limits::Standard, input, &mut out, &mut err);
     ExitCode::from(ended) == ExitCode::from(status)
         && out.as_slice() == output.as_bytes()
         && err.as_slice() == errors.as_bytes()
@@ -41,7 +42,7 @@ fn ends<R: Read>(alloc: Global, input: &mut R, status: u8, output: &str, errors:
 fn said(alloc: Global, bytes: &[u8]) -> Vec<u8> {
     let mut out = Vec::new(alloc);
     let mut err = Vec::new(alloc);
-    run(alloc, &mut &bytes[..], &mut out, &mut err);
+    run(alloc, Limits::Standard, &mut &bytes[..], &mut out, &mut err);
     out
 }
 
@@ -225,6 +226,7 @@ fn writes_front(alloc: Global, room: usize) -> bool {
     let mut errors = Vec::new(alloc);
     let ended = run(
         alloc,
+        Limits::Standard,
         &mut b"round_ms = 0.5".as_slice(),
         &mut output,
         &mut errors,
@@ -239,6 +241,54 @@ fn an_output_that_fails_has_a_front_of_the_answer(rt: HostRuntime) {
     for room in 0..10 {
         assert!(rt; writes_front(rt.alloc(), room));
     }
+}
+
+/// Says whether the program with these arguments ends with this status, and writes these texts.
+fn ends_for(
+    alloc: Global,
+    words: &[&str],
+    status: u8,
+    output: &str,
+    errors: &str,
+) -> Result<bool, AllocError> {
+    let mut arguments = Vec::new(alloc);
+    for word in words {
+        arguments.push(String::from_str(alloc, word)?)?;
+    }
+    let mut out = Vec::new(alloc);
+    let mut err = Vec::new(alloc);
+    let mut input = b"".as_slice();
+    let code = run_for(alloc, arguments.as_slice(), &mut input, &mut out, &mut err);
+    Ok(
+        code == ExitCode::from(status)
+            && out.as_slice() == output.as_bytes()
+            && err.as_slice() == errors.as_bytes(),
+    )
+}
+
+#[test]
+fn one_option_is_known(rt: HostRuntime) -> Result<(), AllocError> {
+    let missing = "28 round_ms\n`round_ms` is missing: it must be the milliseconds of a round, \
+        a whole number from 1 to 60000\n";
+    let usage = "usage: gossip_check [--large]\n";
+    assert!(rt; ends_for(rt.alloc(), &[], 1, missing, "")?);
+    assert!(rt; ends_for(rt.alloc(), &["--large"], 1, missing, "")?);
+    assert!(rt; ends_for(rt.alloc(), &["--small"], 64, "", usage)?);
+    assert!(rt; ends_for(rt.alloc(), &["--large", "--large"], 64, "", usage)?);
+    Ok(())
+}
+
+#[test]
+fn arguments_that_cannot_be_read_are_refused(rt: HostRuntime) {
+    let mut errors = Vec::new(rt.alloc());
+    let code = refuse_unread(ErrorKind::InvalidData, &mut errors);
+    assert!(rt;
+        code == ExitCode::from(64)
+            && errors.as_slice() == b"usage: gossip_check [--large]\n".as_slice()
+    );
+    let mut errors = Vec::new(rt.alloc());
+    let code = refuse_unread(ErrorKind::OutOfMemory, &mut errors);
+    assert!(rt; code == ExitCode::from(2) && errors.as_slice() == NO_MEMORY_ANSWER.as_bytes());
 }
 
 /// The laws take nothing and give nothing, so the test only calls them.

@@ -6,6 +6,7 @@ mod Both
 mod Lanes
 mod SaidBytes
 mod Memories
+mod Linked
 mod Noted
 mod Joining
 mod MeshMembers

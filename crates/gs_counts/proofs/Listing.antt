@@ -12,7 +12,9 @@ use Rattle.gs_plan.specs.declared.plan.Dial.{Dial}
 use Rattle.gs_plan.specs.declared.plan.Plan.{Plan}
 use Rattle.gs_plan.specs.Plans.{are_joined}
 use Rattle.gs_rules.specs.Tables.{ascending}
+use Rattle.gs_seats.specs.Own.{is_dial_of}
 use Rattle.gs_seats.specs.Rounds.{neighbours, numbers}
+use Rattle.gs_seats.proofs.OwnParts.{are_joined_by_own}
 use Rattle.gs_counts.specs.declared.counts.Counts.{Counts}
 use Rattle.gs_counts.specs.declared.happening.Happening.{Happening}
 use Rattle.gs_counts.specs.declared.run.LinkCounts.{LinkCounts}
@@ -25,7 +27,7 @@ use Rattle.gs_counts.specs.declared.tables.Tables.{Tables}
 use Rattle.gs_counts.specs.Listing.{all_links, by_number, link_if, links_by, peer_row, round_row}
 use Rattle.gs_counts.specs.Rows.{row_of, row_where}
 use Rattle.gs_counts.specs.Runs.{counts_of, link_counts, links_of, peer_counts, round_counts, topic_counts}
-use Rattle.gs_counts.specs.Standing.{MeshSize, Shows, goes_over, is_at, is_in, link_of, lists, peer_no, span_in, topics_in}
+use Rattle.gs_counts.specs.Standing.{MeshSize, Shows, is_at, is_in, over, peer_no, span_in, topics_in}
 
 -- ---- each of a list
 
@@ -42,13 +44,13 @@ flat_more f xs i x below is =
 
 -- ---- by number
 
-pub numbered_at : {R : Type 0} (row : ℕ → R) (count : ℕ) (rows : List R) (k n : ℕ) (d : R) → rows ≡ by_number row count → k ≡ n → n < count → get_or rows k d ≡ row n
-numbered_at row count rows k n d is same below =
-    ap₂ (λ xs i. get_or xs i d) is same ∙ get_or-map-range_with_len row 0 count n n d below (zero-add n)
+pub numbered_at : {R : Type 0} (f : ℕ → R) (count : ℕ) (rows : List R) (k n : ℕ) (d : R) → rows ≡ by_number f count → k ≡ n → n < count → get_or rows k d ≡ f n
+numbered_at f count rows k n d is same below =
+    ap₂ (λ xs i. get_or xs i d) is same ∙ get_or-map-range_with_len f 0 count n n d below (zero-add n)
 
-pub numbered_more : {R : Type 0} (row : ℕ → R) (n : ℕ) (old new : List R) (x : R) → old ≡ by_number row n → x ≡ row n → new ≡ old ++ x ∷ [] → new ≡ by_number row (n + 1)
-numbered_more row n old new x had is more =
-    more ∙ ap₂ (λ xs y. xs ++ y ∷ []) had is ∙ sym (map-range_with_len_more row 0 n n (zero-add n))
+pub numbered_more : {R : Type 0} (f : ℕ → R) (n : ℕ) (old new : List R) (x : R) → old ≡ by_number f n → x ≡ f n → new ≡ old ++ x ∷ [] → new ≡ by_number f (n + 1)
+numbered_more f n old new x had is more =
+    more ∙ ap₂ (λ xs y. xs ++ y ∷ []) had is ∙ sym (map-range_with_len_more f 0 n n (zero-add n))
 
 flat_from : {B : Type 0} (f : ℕ → List B) (a n j : ℕ) → a + n ≡ j → flat_map f (range_with_len a (suc n)) ≡ flat_map f (range_with_len a n) ++ f j
 flat_from f a zero j is = append-nil (f a) ∙ ap f (omega (arith, is))
@@ -59,43 +61,32 @@ flat_from f a (suc n) j is =
 pub flat_numbered : {B : Type 0} (f : ℕ → List B) (n : ℕ) → flat_map f (range_with_len 0 (n + 1)) ≡ flat_map f (range_with_len 0 n) ++ f n
 flat_numbered f n = ap (λ k. flat_map f (range_with_len 0 k)) (add-one n) ∙ flat_from f 0 n n (zero-add n)
 
-pub as_many : {R : Type 0} (row : ℕ → R) (count : ℕ) (rows : List R) → rows ≡ by_number row count → length rows ≡ count
-as_many row count rows is = ap (λ xs. length xs) is ∙ length-map-range_with_len row 0 count
+pub as_many : {R : Type 0} (f : ℕ → R) (count : ℕ) (rows : List R) → rows ≡ by_number f count → length rows ≡ count
+as_many f count rows is = ap (λ xs. length xs) is ∙ length-map-range_with_len f 0 count
 
--- ---- lists of rows
+-- ---- links by a peer's own dials
 
-abbrev pub Row : Type 0
-Row = Vec Counts Global
-
-pub as_many_lists : (row : ℕ → List Counts) (count : ℕ) (rows : List Row) → lists rows ≡ by_number row count → length rows ≡ count
-as_many_lists row count rows is = sym (length-map rows (λ (r : Row). r.items)) ∙ as_many row count (lists rows) is
-
-pub list_at : (row : ℕ → List Counts) (count : ℕ) (rows : List Row) (k n : ℕ) (d : Row) → lists rows ≡ by_number row count → k ≡ n → n < count → (get_or rows k d).items ≡ row n
-list_at row count rows k n d is same below =
-    ap (λ i. (get_or rows i d).items) same
-    ∙ sym (get_or-map (λ (r : Row). r.items) rows n d [] (subst (λ i. n < i) (sym (as_many_lists row count rows is)) below))
-    ∙ numbered_at row count (lists rows) n n [] is refl below
+-- a peer's own dials say which links come from it
+pub by_own : (dials : List Dial) (count : ℕ) (p : PeerNo) (row : PeerNo → Counts) → links_by (filter (is_dial_of p) dials) count p row ≡ links_by dials count p row
+by_own dials count p row = λ i. flat_map (λ m. if are_joined_by_own dials p (peer_no m) i then record { from = p; to = peer_no m; counts = row (peer_no m) } ∷ [] else []) (range_with_len 0 count)
 
 -- ---- tables
-
-abbrev pub over : List Happening → ℕ → ℕ → Counts
-over hs n m = row_where (λ h. goes_over (peer_no n) (peer_no m) (link_of h)) hs
 
 peers_listed : (hs : List Happening) (ns : List ℕ) → map (peer_row (λ n. row_where (is_at (peer_no n)) hs)) ns ≡ map (peer_counts hs) (map peer_no ns)
 peers_listed hs [] = refl
 peers_listed hs (n ∷ ns) = ap (λ (rows : List PeerCounts). peer_counts hs (peer_no n) ∷ rows) (peers_listed hs ns)
 
-links_from_one : (dials : List Dial) (hs : List Happening) (n : ℕ) (ms : List ℕ) → flat_map (λ m. link_if dials (peer_no n) (peer_no m) (over hs n m)) ms ≡ map (link_counts hs (peer_no n)) (filter (are_joined dials (peer_no n)) (map peer_no ms))
+links_from_one : (dials : List Dial) (hs : List Happening) (n : ℕ) (ms : List ℕ) → flat_map (λ m. link_if dials (peer_no n) (peer_no m) (over hs (peer_no n) (peer_no m))) ms ≡ map (link_counts hs (peer_no n)) (filter (are_joined dials (peer_no n)) (map peer_no ms))
 links_from_one dials hs n [] = refl
 links_from_one dials hs n (m ∷ ms) = by (are_joined dials (peer_no n) (peer_no m)) (links_from_one dials hs n ms)
   where
-    by : (b : Bool) → flat_map (λ k. link_if dials (peer_no n) (peer_no k) (over hs n k)) ms ≡ map (link_counts hs (peer_no n)) (filter (are_joined dials (peer_no n)) (map peer_no ms))
-        → (if b then link_counts hs (peer_no n) (peer_no m) ∷ [] else []) ++ flat_map (λ k. link_if dials (peer_no n) (peer_no k) (over hs n k)) ms
+    by : (b : Bool) → flat_map (λ k. link_if dials (peer_no n) (peer_no k) (over hs (peer_no n) (peer_no k))) ms ≡ map (link_counts hs (peer_no n)) (filter (are_joined dials (peer_no n)) (map peer_no ms))
+        → (if b then link_counts hs (peer_no n) (peer_no m) ∷ [] else []) ++ flat_map (λ k. link_if dials (peer_no n) (peer_no k) (over hs (peer_no n) (peer_no k))) ms
         ≡ map (link_counts hs (peer_no n)) (if b then peer_no m ∷ filter (are_joined dials (peer_no n)) (map peer_no ms) else filter (are_joined dials (peer_no n)) (map peer_no ms))
     by true is = ap (λ (rows : List LinkCounts). link_counts hs (peer_no n) (peer_no m) ∷ rows) is
     by false is = is
 
-links_listed : (plan : Plan) (hs : List Happening) (ns : List ℕ) → flat_map (λ n. links_by plan.dials (length plan.peers) (peer_no n) (over hs n)) ns ≡ flat_map (links_of plan hs) (map peer_no ns)
+links_listed : (plan : Plan) (hs : List Happening) (ns : List ℕ) → flat_map (λ n. links_by plan.dials (length plan.peers) (peer_no n) (over hs (peer_no n))) ns ≡ flat_map (links_of plan hs) (map peer_no ns)
 links_listed plan hs [] = refl
 links_listed plan hs (n ∷ ns) =
     ap₂ (λ (xs ys : List LinkCounts). xs ++ ys) (links_from_one plan.dials hs n (range_with_len 0 (length plan.peers))) (links_listed plan hs ns)

@@ -23,7 +23,7 @@ use Rattle.gs_counts.specs.declared.span.Span.{Span}
 use Rattle.gs_counts.specs.declared.tables.Tables.{Tables}
 use Rattle.gs_counts.specs.Meshes.{span_of, widened}
 use Rattle.gs_counts.specs.Rows.{changed_at, counted, no_counts, row_of, row_where}
-use Rattle.gs_counts.specs.Standing.{MeshSize, Shows, added_at, added_in, added_over, empty_grid, empty_rows, goes_over, grid, is_at, is_in, is_on, link_of, link_rows, links_from, lists, no_spans, peer_no, peer_rows, round_at, round_rows, row_on, span_in, span_rows, topic_row, topics_in, widened_at, with_more}
+use Rattle.gs_counts.specs.Standing.{MeshSize, Shows, added_at, empty_rows, goes_over, is_at, is_in, is_on, link_of, link_row, no_spans, over, peer_no, peer_rows, round_at, round_rows, row_on, span_in, span_rows, topic_row, topics_in, widened_at, with_more}
 use Rattle.gs_counts.proofs.OneMore.{row_if, row_more}
 use Rattle.gs_counts.proofs.Places.{changed}
 
@@ -43,41 +43,8 @@ module _ (hs : List Happening) (h : Happening) where
 
   -- ---- by links
 
-  abbrev over : ℕ → ℕ → Happening → Bool
-  over n m x = goes_over (peer_no n) (peer_no m) (link_of x)
-
-  -- it goes over none of these links
-  untouched : (n : ℕ) → ((m : ℕ) → over n m h ≡ false) → (ms : List ℕ) → map (λ m. row_where (over n m) more) ms ≡ map (λ m. row_where (over n m) hs) ms
-  untouched n none [] = refl
-  untouched n none (m ∷ ms) = ap₂ (λ (row : Counts) (rows : List Counts). row ∷ rows) (row_if (over n m) hs h false (none m)) (untouched n none ms)
-
-  none_touched : (count : ℕ) → ((n m : ℕ) → over n m h ≡ false) → (ns : List ℕ) → map (links_from count more) ns ≡ map (links_from count hs) ns
-  none_touched count none [] = refl
-  none_touched count none (n ∷ ns) =
-      ap₂ (λ (rows : List Counts) (all : List (List Counts)). rows ∷ all) (untouched n (none n) (range_with_len 0 count)) (none_touched count none ns)
-
-  not_and : (a b : Bool) → a ≡ false → (a && b) ≡ false
-  not_and a b is = ap (λ (c : Bool). c && b) is
-
-  and_so : (a b c : Bool) → a ≡ true → b ≡ c → (a && b) ≡ c
-  and_so a b c is same = ap (λ (d : Bool). d && b) is ∙ same
-
-  links_by : (count : ℕ) (o : Option (PeerNo × PeerNo)) → link_of h ≡ o → added_over (link_rows count hs) o h.kind h.amount ≡ link_rows count more
-  links_by count None is = sym (none_touched count (λ n m. ap (goes_over (peer_no n) (peer_no m)) is) (range_with_len 0 count))
-  links_by count (Some link) is =
-      changed (λ row. added_at row link.1.0 h.kind h.amount) (links_from count hs) (links_from count more) link.0.0 here others count
-    where
-      tests : (n m : ℕ) → over n m h ≡ (nat_eq link.0.0 n && nat_eq link.1.0 m)
-      tests n m = ap (goes_over (peer_no n) (peer_no m)) is
-
-      here : (n : ℕ) → nat_eq link.0.0 n ≡ true → links_from count more n ≡ added_at (links_from count hs n) link.1.0 h.kind h.amount
-      here n from =
-          sym
-          (changed (with_more h.kind h.amount) (λ m. row_where (over n m) hs) (λ m. row_where (over n m) more) link.1.0 (λ m to. row_if (over n m) hs h true (tests n m ∙ and_so (nat_eq link.0.0 n) (nat_eq link.1.0 m) true from to)) (λ m to. row_if (over n m) hs h false (tests n m ∙ and_so (nat_eq link.0.0 n) (nat_eq link.1.0 m) false from to)) count)
-
-      others : (n : ℕ) → nat_eq link.0.0 n ≡ false → links_from count more n ≡ links_from count hs n
-      others n from =
-          untouched n (λ m. tests n m ∙ not_and (nat_eq link.0.0 n) (nat_eq link.1.0 m) from) (range_with_len 0 count)
+  links_more : (p q : PeerNo) → over more p q ≡ (if goes_over p q (link_of h) then counted (over hs p q) h.kind h.amount else over hs p q)
+  links_more p q = row_if (λ x. goes_over p q (link_of x)) hs h (goes_over p q (link_of h)) refl
 
   -- ---- by topics
 
@@ -144,7 +111,7 @@ pub noted : (plan : Plan) (old new : Tables) (hs : List Happening) (sizes : List
     → new.peers.items ≡ added_at old.peers.items h.peer.0 h.kind h.amount
     → new.rounds.items ≡ added_at old.rounds.items (round_at old.round_ms h.at) h.kind h.amount
     → new.spans.items ≡ old.spans.items
-    → grid new.links ≡ added_over (grid old.links) (link_of h) h.kind h.amount
+    → ((p q : PeerNo) → link_row new.links p q ≡ (if goes_over p q (link_of h) then counted (link_row old.links p q) h.kind h.amount else link_row old.links p q))
     → ((t : Topic) → topic_row new.topics t ≡ (if is_on t h.topic then Some (counted (unwrap_or (topic_row old.topics t) no_counts) h.kind h.amount) else topic_row old.topics t))
     → Shows plan new (hs ++ h ∷ []) sizes
 noted plan old new hs sizes h was round_ms all peers rounds spans links topics = record {
@@ -154,9 +121,10 @@ noted plan old new hs sizes h was round_ms all peers rounds spans links topics =
       ∙ ap₂ (λ (rows : List Counts) (ms : ℕ). added_at rows (round_at ms h.at) h.kind h.amount) was.rounds was.round_ms
       ∙ rounds_more hs h plan.round_ms (plan.rounds + 1);
   spans = spans ∙ was.spans;
-  links = links
-      ∙ ap (λ (rows : List (List Counts)). added_over rows (link_of h) h.kind h.amount) was.links
-      ∙ links_by hs h (length plan.peers) (link_of h) refl;
+  links = λ p q.
+      links p q
+      ∙ ap (λ (row : Counts). if goes_over p q (link_of h) then counted row h.kind h.amount else row) (was.links p q)
+      ∙ sym (links_more hs h p q);
   topics = λ t.
       topics t
       ∙ ap (λ (o : Option Counts). if is_on t h.topic then Some (counted (unwrap_or o no_counts) h.kind h.amount) else o) (was.topics t)
@@ -193,7 +161,7 @@ size_noted plan old new hs sizes x was same spans = record {
   spans = spans
       ∙ ap₂ (λ (rows : List (Option Span)) (ms : ℕ). widened_at rows (round_at ms x.0) x.1) was.spans was.round_ms
       ∙ changed (λ span. widened span (pos x.1)) (λ r. span_in plan.round_ms r sizes) (λ r. span_in plan.round_ms r (sizes ++ x ∷ [])) (round_at plan.round_ms x.0) (λ r is. span_if plan.round_ms r sizes x true is) (λ r is. span_if plan.round_ms r sizes x false is) (plan.rounds + 1);
-  links = ap (λ (t : Tables). grid t.links) same ∙ was.links;
+  links = λ p q. ap (λ (t : Tables). link_row t.links p q) same ∙ was.links p q;
   topics = λ t. ap (λ (s : Tables). topic_row s.topics t) same ∙ was.topics t;
   all = ap (λ (t : Tables). t.all) same ∙ was.all;
 }
@@ -206,34 +174,13 @@ one_more first xs i x d below is =
     append_assoc first (take i xs) (x ∷ [])
     ∙ ap (λ zs. first ++ zs) (ap (λ y. take i xs ++ y ∷ []) is ∙ sym (take_more xs i d below))
 
--- ---- lists of rows
-
-abbrev Row : Type 0
-Row = Vec Counts Global
-
--- the rows of one peer change
-pub in_grid : (rows : Vec Row Global) (i : ℕ) (row new : Row) (change : List Counts → List Counts) → i < length rows.items → row ≡ get_or rows.items i row → new.items ≡ change row.items → grid (with_item rows i new) ≡ changed_at change (grid rows) i
-in_grid rows i row new change below is more =
-    map-set (λ (r : Row). r.items) rows.items i new
-    ∙ ap (λ (xs : List Counts). slice_set (grid rows) i xs) more
-    ∙ ap (λ (o : Option (List Counts)). elim o [ None ↦ grid rows | Some x ↦ slice_set (grid rows) i (change x) ])
-    (ap (option_map (λ (r : Row). r.items)) (ap (λ (r : Row). Some r) is ∙ sym (slice_get-get_or rows.items i row below)) ∙ sym (slice_get-map (λ (r : Row). r.items) rows.items i))
-
--- one more list of rows in which nothing stands
-pub one_list_more : (count i : ℕ) (all new : List Row) (row : Row) → lists all ≡ map (λ n. empty_rows count) (range_with_len 0 i) → row.items ≡ empty_rows count → new ≡ all ++ row ∷ [] → lists new ≡ map (λ n. empty_rows count) (range_with_len 0 (i + 1))
-one_list_more count i all new row had is more =
-    ap lists more
-    ∙ map-append (λ (r : Row). r.items) all (row ∷ [])
-    ∙ ap₂ (λ (xs : List (List Counts)) (x : List Counts). xs ++ x ∷ []) had is
-    ∙ sym (map-range_with_len_more (λ n. empty_rows count) 0 i i (zero-add i))
-
 -- tables in which nothing stands
 pub nothing_shown : (plan : Plan) (tables : Tables)
     → tables.round_ms ≡ plan.round_ms
     → tables.peers.items ≡ empty_rows (length plan.peers)
     → tables.rounds.items ≡ empty_rows (plan.rounds + 1)
     → tables.spans.items ≡ no_spans (plan.rounds + 1)
-    → grid tables.links ≡ empty_grid (length plan.peers)
+    → ((p q : PeerNo) → link_row tables.links p q ≡ no_counts)
     → ((t : Topic) → topic_row tables.topics t ≡ None)
     → tables.all ≡ no_counts
     → Shows plan tables [] []

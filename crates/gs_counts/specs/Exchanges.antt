@@ -38,4 +38,5 @@ IsWhole of row = (is_chosen of row.from ≡ true) × (is_chosen of row.to ≡ tr
 -- the same in a row, whose numbers are at most the greatest one that is given
 abbrev pub CameInRow : Counts → Type 0
 CameInRow counts =
-    plus (plus (count_at counts RpcsHeard) (count_at counts RpcsGraylisted)) (count_at counts RpcsLate) ≡ count_at counts RpcsSent
+    plus (plus (count_at counts RpcsHeard) (count_at counts RpcsGraylisted)) (count_at counts RpcsLate)
+    ≡ count_at counts RpcsSent

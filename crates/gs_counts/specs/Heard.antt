@@ -71,7 +71,8 @@ loss_happenings s Fault = on_none s kinds.Faults 1 ∷ []
 
 -- What an event with these marks counts as. `fallen` is what came to nothing at it. Each event is named here, so that a new
 -- one must be decided on.
-abbrev pub event_happenings : (Message → List Mark → Fate) → Scene → List Fallen → Event → List Mark → List Happening
+abbrev pub event_happenings
+    : (Message → List Mark → Fate) → Scene → List Fallen → Event → List Mark → List Happening
 event_happenings fate s fallen (Heard q rpc) marks = rpc_happenings (heard_of s q) fallen
 event_happenings fate s fallen (Late q rpc) marks = []
 event_happenings fate s fallen (Part q part) marks = part_happenings fate (heard_of s q) part marks

@@ -33,12 +33,12 @@ abbrev pub link_if : List Dial → PeerNo → PeerNo → Counts → List LinkCou
 link_if dials p q counts = if are_joined dials p q then record { from = p; to = q; counts = counts } ∷ [] else []
 
 -- the links from a peer
-abbrev pub links_by : List Dial → ℕ → PeerNo → (ℕ → Counts) → List LinkCounts
-links_by dials count p row = flat_map (λ m. link_if dials p (peer_no m) (row m)) (range_with_len 0 count)
+abbrev pub links_by : List Dial → ℕ → PeerNo → (PeerNo → Counts) → List LinkCounts
+links_by dials count p row = flat_map (λ m. link_if dials p (peer_no m) (row (peer_no m))) (range_with_len 0 count)
 
 -- the links of all peers
-abbrev pub all_links : List Dial → ℕ → (ℕ → ℕ → Counts) → List LinkCounts
-all_links dials count row = flat_map (λ n. links_by dials count (peer_no n) (row n)) (range_with_len 0 count)
+abbrev pub all_links : List Dial → ℕ → (PeerNo → PeerNo → Counts) → List LinkCounts
+all_links dials count row = flat_map (λ n. links_by dials count (peer_no n) (row (peer_no n))) (range_with_len 0 count)
 
 -- ---- what goes over links to a peer
 

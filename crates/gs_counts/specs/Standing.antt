@@ -1,11 +1,10 @@
 -- In which row of each table a happening stands, and the tables of happenings.
-use Rattle.std.specs.Prelude.{◌≡◌, ℕ, ◌+◌, ◌/◌, max, pos, Bool, false, nat_eq, ◌&&◌, if◌then◌else◌, List, [], ◌∷◌, filter, length, map, Option, None, Some, option_to_list}
+use Rattle.std.specs.Prelude.{◌≡◌, ℕ, ◌+◌, ◌/◌, max, pos, Bool, false, nat_eq, ◌&&◌, if◌then◌else◌, List, [], ◌∷◌, filter, length, map, Option, None, Some, option_to_list, unwrap_or}
 use Rattle.std.specs.List.{flat_map, list_any, range_with_len}
 use Rattle.std.specs.Map.{lookup}
 use Rattle.std.specs.Ordering.{is_eq}
-use Rattle.std.specs.declared.vec.Vec.{Vec}
-use Rattle.std.specs.declared.alloc.Global.{Global}
 use Rattle.std.specs.BTreeMap.{BTreeMap}
+use Rattle.indexmap.specs.IndexMap.{IndexMap}
 use Rattle.gs_base.specs.declared.names.Millis.{Millis}
 use Rattle.gs_base.specs.declared.names.PeerNo.{PeerNo}
 use Rattle.gs_base.specs.declared.names.Topic.{Topic}
@@ -61,19 +60,14 @@ peer_rows count hs = map (λ n. row_where (is_at (peer_no n)) hs) (range_with_le
 abbrev pub round_rows : ℕ → ℕ → List Happening → List Counts
 round_rows round_ms count hs = map (λ r. row_where (is_in round_ms r) hs) (range_with_len 0 count)
 
-abbrev pub links_from : ℕ → List Happening → ℕ → List Counts
-links_from count hs n =
-    map (λ m. row_where (λ h. goes_over (peer_no n) (peer_no m) (link_of h)) hs) (range_with_len 0 count)
-
-abbrev pub link_rows : ℕ → List Happening → List (List Counts)
-link_rows count hs = map (links_from count hs) (range_with_len 0 count)
-
--- empty rows, and lists of them
 abbrev pub empty_rows : ℕ → List Counts
 empty_rows count = map (λ n. no_counts) (range_with_len 0 count)
 
-abbrev pub empty_grid : ℕ → List (List Counts)
-empty_grid count = map (λ n. empty_rows count) (range_with_len 0 count)
+-- ---- the table by links
+
+-- the row of the link from one peer to another
+abbrev pub over : List Happening → PeerNo → PeerNo → Counts
+over hs p q = row_where (λ h. goes_over p q (link_of h)) hs
 
 -- ---- the table by topics
 
@@ -106,23 +100,15 @@ with_more kind amount counts = counted counts kind amount
 abbrev pub added_at : List Counts → ℕ → Kind → ℕ → List Counts
 added_at rows place kind amount = changed_at (with_more kind amount) rows place
 
-abbrev pub added_in : List (List Counts) → ℕ → ℕ → Kind → ℕ → List (List Counts)
-added_in rows from to kind amount = changed_at (λ row. added_at row to kind amount) rows from
-
-abbrev pub added_over : List (List Counts) → Option (PeerNo × PeerNo) → Kind → ℕ → List (List Counts)
-added_over rows None kind amount = rows
-added_over rows (Some link) kind amount = added_in rows link.0.0 link.1.0 kind amount
-
 abbrev pub widened_at : List (Option Span) → ℕ → ℕ → List (Option Span)
 widened_at spans place size = changed_at (λ span. widened span (pos size)) spans place
 
 -- ---- tables in memory
 
-abbrev pub lists : List (Vec Counts Global) → List (List Counts)
-lists rows = map (λ (row : Vec Counts Global). row.items) rows
-
-abbrev pub grid : Vec (Vec Counts Global) Global → List (List Counts)
-grid rows = lists rows.items
+-- the row of a link; nothing stands in it where the table has none
+abbrev pub link_row : {S : Type 0} → IndexMap (PeerNo × PeerNo) Counts S → PeerNo → PeerNo → Counts
+link_row rows p q =
+    unwrap_or (lookup (λ (link : PeerNo × PeerNo). same_peer p link.0 && same_peer q link.1) rows.entries) no_counts
 
 -- the row of a topic, if there is one
 abbrev pub topic_row : BTreeMap Topic Counts → Topic → Option Counts
@@ -138,6 +124,6 @@ pub record Shows (plan : Plan) (tables : Tables) (hs : List Happening) (sizes : 
   pub peers : tables.peers.items ≡ peer_rows (length plan.peers) hs
   pub rounds : tables.rounds.items ≡ round_rows plan.round_ms (plan.rounds + 1) hs
   pub spans : tables.spans.items ≡ span_rows plan.round_ms (plan.rounds + 1) sizes
-  pub links : grid tables.links ≡ link_rows (length plan.peers) hs
+  pub links : (p q : PeerNo) → link_row tables.links p q ≡ over hs p q
   pub topics : (t : Topic) → topic_row tables.topics t ≡ row_on hs t
   pub all : tables.all ≡ row_of hs

@@ -28,7 +28,8 @@ pub(crate) fn note_event(
     did: Did<'_>,
 ) -> Result<(), AllocError>
     ensures { OnOk result (list.new.items
-        ≡ list.old.items ++ event_happenings (known_fate memory.now) scene did.entry.fallen.now did.entry.event.now did.entry.marks.now) }
+        ≡ list.old.items
+        ++ event_happenings (known_fate memory.now) scene did.entry.fallen.now did.entry.event.now did.entry.marks.now) }
 {
     match did.event {
         Event::Heard(q, _) => note_rpc(list, scene.with(*q), did.fallen),

@@ -61,9 +61,11 @@ pub fn rows_of_topics_make_up_the_whole()
 
 /// Each message that is heard counts as exactly one kind of message, and the bytes of its payload count once.
 pub fn each_message_becomes_one_thing()
-    ensures one { (fate : MessageValue → List MarkValue → FateValue) (s : SceneValue) (m : MessageValue) (marks : List MarkValue)
+    ensures one { (fate : MessageValue → List MarkValue → FateValue)
+        (s : SceneValue) (m : MessageValue) (marks : List MarkValue)
         → sum_by (amount_in (part_happenings fate s (Msg m) marks)) ends_of_messages ≡ 1 }
-    ensures payload { (fate : MessageValue → List MarkValue → FateValue) (s : SceneValue) (m : MessageValue) (marks : List MarkValue)
+    ensures payload { (fate : MessageValue → List MarkValue → FateValue)
+        (s : SceneValue) (m : MessageValue) (marks : List MarkValue)
         → sum_by (amount_in (part_happenings fate s (Msg m) marks)) payloads_of_messages ≡ length (payload_of m) }
 {}
 

@@ -12,17 +12,18 @@ ghost use Rattle.gs_counts.specs.declared.happening.Happening.{Happening as Happ
 ghost use Rattle.gs_counts.specs.declared.span.Span.{Span as SpanValue};
 ghost use Rattle.gs_counts.specs.Listing.{all_links, by_number, link_if, links_by, links_to, over_links, peer_row, round_row, with_links};
 ghost use Rattle.gs_counts.specs.Runs.{chosen_peers, counts_of, happenings, mesh_sizes, run_counts, topic_counts};
-ghost use Rattle.gs_counts.specs.Standing.{MeshSize, Shows, lists, row_on, topic_row, topics_in};
+ghost use Rattle.gs_counts.specs.Standing.{MeshSize, Shows, link_row, row_on, topic_row, topics_in};
 
 use crate::counts::Counts;
 use crate::kind::Kind;
 use crate::span::Span;
-use crate::tables::Tables;
+use crate::tables::{LinkRows, Tables, row_over};
 use crate::traces::note_peer;
 use gs_base::{PeerNo, Seq, Topic, clone_of};
 use gs_plan::{Dial, Plan, are_joined};
 use gs_reach::Chosen;
 use gs_report::{Finished, Report};
+use gs_seats::own_of;
 use std::alloc::{AllocError, Global};
 use std::collections::BTreeMap;
 
@@ -175,46 +176,31 @@ fn link_rows(
     alloc: Global,
     dials: &[Dial],
     count: u16,
-    rows: &[Vec<Counts>],
+    rows: &LinkRows,
 ) -> Result<Seq<LinkCounts>, AllocError>
-    requires { (row : ℕ → ℕ → CountsValue) × (lists rows.now ≡ by_number (λ n. by_number (row n) count) count) }
-    ensures { IfOk result (λ links. (row : ℕ → ℕ → CountsValue)
-        → lists rows.now ≡ by_number (λ n. by_number (row n) count) count
-        → links ≡ all_links dials.now count row) }
+    ensures { IfOk result (λ links. links ≡ all_links dials.now count (link_row rows.now)) }
 {
     let mut links = Seq::new(alloc);
     for number in 0..count {
-        list_links(
-            &mut links,
-            dials,
-            count,
-            PeerNo(number),
-            &rows[usize::from(number)],
-        )?;
+        let from = PeerNo(number);
+        let own = own_of(alloc, dials, from)?;
+        list_links(&mut links, &own, count, from, rows)?;
     }
     Ok(links)
 }
 
+/// Lists the links from a peer to others. These dials are enough to say who they are.
 fn list_links(
     links: &mut Seq<LinkCounts>,
     dials: &[Dial],
     count: u16,
     from: PeerNo,
-    rows: &[Counts],
+    rows: &LinkRows,
 ) -> Result<(), AllocError>
-    requires { length rows.now ≡ count }
-    ensures { OnOk result ((row : ℕ → CountsValue)
-        → rows.now ≡ by_number row count
-        → links.new ≡ links.old ++ links_by dials.now count from row) }
+    ensures { OnOk result (links.new ≡ links.old ++ links_by dials.now count from (link_row rows.now from)) }
 {
     for number in 0..count {
-        list_link(
-            links,
-            dials,
-            from,
-            PeerNo(number),
-            rows[usize::from(number)],
-        )?;
+        list_link(links, dials, from, PeerNo(number), rows)?;
     }
     Ok(())
 }
@@ -225,14 +211,18 @@ fn list_link(
     dials: &[Dial],
     from: PeerNo,
     to: PeerNo,
-    counts: Counts,
+    rows: &LinkRows,
 ) -> Result<(), AllocError>
-    ensures { OnOk result (links.new ≡ links.old ++ link_if dials.now from to counts) }
+    ensures { OnOk result (links.new ≡ links.old ++ link_if dials.now from to (link_row rows.now from to)) }
 {
     if !are_joined(dials, from, to) {
         return Ok(());
     }
-    links.push(LinkCounts { from, to, counts })
+    links.push(LinkCounts {
+        from,
+        to,
+        counts: row_over(rows, from, to),
+    })
 }
 
 fn topic_rows(alloc: Global, rows: &BTreeMap<Topic, Counts>) -> Result<Seq<TopicCounts>, AllocError>

@@ -1,12 +1,13 @@
 //! The tables of a run while its happenings are noted.
 ghost use Rattle.std.specs.Prelude.{◌≡◌, ◌++◌, ◌∷◌, [], if◌then◌else◌, IfOk, List, OnOk, Some, unwrap_or};
 ghost use Rattle.gs_base.specs.Names.{same_topic};
+ghost use Rattle.gs_base.specs.declared.names.PeerNo.{PeerNo as PeerNoValue};
 ghost use Rattle.gs_base.specs.declared.names.Topic.{Topic as TopicValue};
 ghost use Rattle.gs_plan.specs.Plans.{IsInRange};
 ghost use Rattle.gs_plan.specs.declared.plan.Plan.{Plan as PlanValue};
 ghost use Rattle.gs_counts.specs.Rows.{counted, no_counts};
 ghost use Rattle.gs_counts.specs.declared.happening.Happening.{Happening as HappeningValue};
-ghost use Rattle.gs_counts.specs.Standing.{MeshSize, Shows, added_at, added_in, added_over, empty_grid, empty_rows, grid, is_on, link_of, no_spans, round_at, topic_row, widened_at};
+ghost use Rattle.gs_counts.specs.Standing.{MeshSize, Shows, added_at, empty_rows, goes_over, is_on, link_of, link_row, no_spans, round_at, topic_row, widened_at};
 
 use crate::counts::{Counts, no_counts};
 use crate::happening::Happening;
@@ -14,11 +15,15 @@ use crate::kind::Kind;
 use crate::span::{Span, widened};
 use gs_base::{Millis, PeerNo, Topic, clone_of};
 use gs_plan::Plan;
+use indexmap::IndexMap;
 use std::alloc::{AllocError, Global};
 use std::collections::BTreeMap;
 
-/// The tables of a run while its happenings are noted. They have a row for each peer, each round, each pair of a sender and
-/// a hearer, and each topic. Peers and rounds are by number.
+/// The rows of links over which something went, by the peer that the link comes from, and the peer that it leads to.
+pub(crate) type LinkRows = IndexMap<(PeerNo, PeerNo), Counts>;
+
+/// The tables of a run while its happenings are noted. They have a row for each peer, each round, each link over which
+/// something went, and each topic. Peers and rounds are by number.
 #[derive(Drop)]
 pub(crate) struct Tables {
     round_ms: u64,
@@ -26,7 +31,7 @@ pub(crate) struct Tables {
     pub rounds: Vec<Counts>,
     /// The sizes of the smallest and the largest mesh when the peers ended each round.
     pub spans: Vec<Option<Span>>,
-    pub links: Vec<Vec<Counts>>,
+    pub links: LinkRows,
     pub topics: BTreeMap<Topic, Counts>,
     pub all: Counts,
 }
@@ -44,7 +49,7 @@ impl Tables {
             peers: rows(alloc, peers)?,
             rounds: rows(alloc, rounds)?,
             spans: no_spans(alloc, rounds)?,
-            links: rows_of_rows(alloc, peers)?,
+            links: IndexMap::new(alloc),
             topics: BTreeMap::new(alloc),
             all: no_counts(),
         })
@@ -75,7 +80,7 @@ impl Tables {
             kind,
             amount,
         );
-        add_over(&mut self.links, link_of(happening), kind, amount);
+        add_over(&mut self.links, link_of(happening), kind, amount)?;
         add_on(&mut self.topics, &happening.topic, kind, amount)
     }
 
@@ -115,20 +120,50 @@ fn add_at(rows: &mut Vec<Counts>, place: usize, kind: Kind, amount: u64)
     }
 }
 
-/// Adds to the row of a link, if there is one.
-fn add_over(rows: &mut Vec<Vec<Counts>>, link: Option<(PeerNo, PeerNo)>, kind: Kind, amount: u64)
-    ensures { grid rows.new ≡ added_over (grid rows.old) link kind amount }
+/// Adds to the row of a link, if there is a link.
+fn add_over(
+    rows: &mut LinkRows,
+    link: Option<(PeerNo, PeerNo)>,
+    kind: Kind,
+    amount: u64,
+) -> Result<(), AllocError>
+    ensures { OnOk result ((p q : PeerNoValue) → link_row rows.new p q
+        ≡ (if goes_over p q link then counted (link_row rows.old p q) kind amount else link_row rows.old p q)) }
 {
-    if let Some((from, to)) = link {
-        add_in(rows, usize::from(from.0), usize::from(to.0), kind, amount);
+    match link {
+        Some(link) => add_on_link(rows, link, kind, amount),
+        None => Ok(()),
     }
 }
 
-fn add_in(rows: &mut Vec<Vec<Counts>>, from: usize, to: usize, kind: Kind, amount: u64)
-    ensures { grid rows.new ≡ added_in (grid rows.old) from to kind amount }
+fn add_on_link(
+    rows: &mut LinkRows,
+    link: (PeerNo, PeerNo),
+    kind: Kind,
+    amount: u64,
+) -> Result<(), AllocError>
+    ensures { OnOk result ((p q : PeerNoValue) → link_row rows.new p q
+        ≡ (if goes_over p q (Some link) then counted (link_row rows.old p q) kind amount else link_row rows.old p q)) }
 {
-    if let Some(row) = rows.get_mut(from) {
-        add_at(row, to, kind, amount);
+    match rows.get_mut(&link) {
+        Some(row) => {
+            row.add(kind, amount);
+            Ok(())
+        }
+        None => {
+            rows.insert(link, first_row(kind, amount))?;
+            Ok(())
+        }
+    }
+}
+
+/// Returns the row of a link, in which nothing stands where the table has none.
+pub(crate) fn row_over(rows: &LinkRows, from: PeerNo, to: PeerNo) -> Counts
+    ensures { result ≡ link_row rows.now from to }
+{
+    match rows.get(&(from, to)) {
+        Some(row) => *row,
+        None => no_counts(),
     }
 }
 
@@ -198,17 +233,6 @@ fn rows(alloc: Global, count: usize) -> Result<Vec<Counts>, AllocError>
         rows.push(no_counts())?;
     }
     Ok(rows)
-}
-
-/// This many lists of this many empty rows.
-fn rows_of_rows(alloc: Global, count: usize) -> Result<Vec<Vec<Counts>>, AllocError>
-    ensures { IfOk result (λ rows. grid rows ≡ empty_grid count) }
-{
-    let mut all = Vec::new(alloc);
-    for _ in 0..count {
-        all.push(rows(alloc, count)?)?;
-    }
-    Ok(all)
 }
 
 fn no_spans(alloc: Global, count: usize) -> Result<Vec<Option<Span>>, AllocError>

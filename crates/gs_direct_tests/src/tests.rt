@@ -1,4 +1,5 @@
 use gs_direct::run_direct;
+use gs_plan::Limits;
 use gs_report::report_text;
 use gs_scenario::read_plan;
 use std::alloc::{AllocError, AllocGlobal};
@@ -141,7 +142,7 @@ const HUNG_UP: &str = "\
 fn is_reported<R: AllocGlobal>(rt: &R, lines: &str, text: &str) -> Result<bool, AllocError> {
     let mut scenario = String::from_str(rt.alloc(), THREE)?;
     scenario.push_str(lines)?;
-    let Ok(plan) = read_plan(rt.alloc(), &scenario) else {
+    let Ok(plan) = read_plan(rt.alloc(), Limits::Standard, &scenario) else {
         return Ok(false);
     };
     let Ok(report) = run_direct(rt.alloc(), &plan) else {

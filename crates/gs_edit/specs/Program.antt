@@ -6,7 +6,9 @@ use Rattle.toml_parser.specs.Strings.{recursion_limit}
 use Rattle.toml.specs.Data.{Members, members_depth, members_have_valid_dates}
 use Rattle.toml.specs.Parse.{parse_document}
 use Rattle.toml.specs.Text.{IsDocumentText}
-use Rattle.gs_streams.specs.Streams.{AppendsFront, longest_input}
+use Rattle.gs_plan.specs.Limits.{longest_input}
+use Rattle.gs_plan.specs.declared.limits.Limits.TheVariants.{Large}
+use Rattle.gs_streams.specs.Streams.{AppendsFront}
 use Rattle.gs_edit.specs.Keys.{are_edits, key_text}
 use Rattle.gs_edit.specs.Edits.{edited}
 use Rattle.gs_edit.specs.declared.edits.EditFault.{EditFault}
@@ -59,7 +61,7 @@ pub record IsNotWritable (arguments : List (List ℕ)) (bytes : List ℕ) : Type
 
 -- why the bytes of a scenario are refused
 abbrev pub IsRefusal : List (List ℕ) → List ℕ → Refusal → Type 0
-IsRefusal arguments bytes refusals.TooLong = longest_input < length bytes
+IsRefusal arguments bytes refusals.TooLong = longest_input Large < length bytes
 IsRefusal arguments bytes refusals.NoToml = IsUtf8 bytes → parse_document bytes ≡ None
 IsRefusal arguments bytes (refusals.Edit fault) = IsRefusedEdit arguments bytes fault
 IsRefusal arguments bytes refusals.NotWritable = IsNotWritable arguments bytes
@@ -77,7 +79,7 @@ IsNotMade arguments bytes causes.NoMemory = ⊤
 abbrev pub IsReading : Option (List ℕ) → Result (Vec ℕ Global) ReadFault → Type 0
 IsReading input (Ok bytes) = IfSome input (λ given. bytes.items ≡ given)
 IsReading input (Err reads.Failed) = ⊤
-IsReading input (Err reads.TooLong) = IfSome input (λ given. longest_input < length given)
+IsReading input (Err reads.TooLong) = IfSome input (λ given. longest_input Large < length given)
 IsReading input (Err reads.NoMemory) = ⊤
 
 -- why a scenario that was not read to its end is not changed
@@ -115,7 +117,7 @@ edit_reason arguments (NoValue n) = no_value (key_at arguments n)
 edit_reason arguments (NoTable n) = no_table (key_at arguments n)
 
 abbrev pub reason : List (List ℕ) → Refusal → List ℕ
-reason arguments refusals.TooLong = codes "the scenario has more than 8388608 bytes"
+reason arguments refusals.TooLong = codes "the scenario has more than 67108864 bytes"
 reason arguments refusals.NoToml = codes "the scenario is no TOML"
 reason arguments (refusals.Edit fault) = edit_reason arguments fault
 reason arguments refusals.NotWritable = codes "the changed scenario nests too deep, or holds a date that is none"

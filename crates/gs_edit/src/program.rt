@@ -7,6 +7,7 @@ use crate::change::changed;
 use crate::edits::NoChange;
 use crate::keys::are_edits;
 use crate::reasons::refusal_line;
+use gs_plan::Limits;
 use gs_streams::{ReadFault, read_input, try_to_write, write_text};
 use std::alloc::Global;
 use std::io::{ErrorKind, Read, Write};
@@ -71,7 +72,7 @@ where
         try_to_write(errors, USAGE);
         return ExitStatus::WrongArguments;
     }
-    let reading = read_input(alloc, input);
+    let reading = read_input(alloc, Limits::Large, input);
     finish(alloc, arguments, reading, output, errors)
 }
 

@@ -21,7 +21,7 @@ fn reason(alloc: Global, arguments: &[String], refusal: Refusal) -> Result<Strin
     ensures { IfOk result (λ text. string_bytes text ≡ reason (map string_bytes arguments.now) refusal) }
 {
     match refusal {
-        Refusal::TooLong => String::from_str(alloc, "the scenario has more than 8388608 bytes"),
+        Refusal::TooLong => String::from_str(alloc, "the scenario has more than 67108864 bytes"),
         Refusal::NoToml => String::from_str(alloc, "the scenario is no TOML"),
         Refusal::Edit(EditFault::NoKey(number)) => no_key(alloc, number),
         Refusal::Edit(EditFault::NoValue(number)) => no_value(alloc, key_at(arguments, number)),

@@ -187,8 +187,8 @@ fn a_scenario_that_is_no_toml_is_refused(rt: HostRuntime) -> Result<(), AllocErr
 
 #[test]
 fn a_long_scenario_is_refused(rt: HostRuntime) -> Result<(), AllocError> {
-    let input = vec![in rt.alloc(); b'#'; 8_388_609]?;
-    let line = "edit refused: the scenario has more than 8388608 bytes\n";
+    let input = vec![in rt.alloc(); b'#'; 67_108_865]?;
+    let line = "edit refused: the scenario has more than 67108864 bytes\n";
     assert!(rt;
         ends(
             rt.alloc(),

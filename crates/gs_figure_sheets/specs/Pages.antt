@@ -97,7 +97,8 @@ figure_sheet subject parties lines name title figures = record {
 
 abbrev pub section_sheet : Subject → List Party → List Line → Section → Sheet
 section_sheet subject parties lines section =
-    figure_sheet subject parties lines (section_name section) (section_title subject section) (section_figures subject (length parties) section)
+    figure_sheet subject parties lines (section_name section) (section_title subject section)
+    (section_figures subject (length parties) section)
 
 abbrev pub whole_sheet : Subject → List Party → List Line → Sheet
 whole_sheet subject parties lines =

@@ -128,7 +128,8 @@ joined a b = record {
 -- the joined figures of the chosen ones among these peers
 abbrev pub sum_of : Chosen → List PeerFigures → RowFigures
 sum_of chosen rows =
-    fold (λ sum (row : PeerFigures). joined sum row.figures) no_figures (filter (λ (row : PeerFigures). is_chosen chosen row.peer) rows)
+    fold (λ sum (row : PeerFigures). joined sum row.figures) no_figures
+    (filter (λ (row : PeerFigures). is_chosen chosen row.peer) rows)
 
 -- some of these peers are chosen
 abbrev pub has_chosen : Chosen → List PeerFigures → Bool

@@ -155,7 +155,8 @@ pub(crate) fn push_pages(
     layout: Layout,
     page: &Page<'_>,
 ) -> Result<(), AllocError>
-    ensures { OnOk result (sheets.new ≡ sheets.old ++ figure_pages layout page.now.subject page.now.parties.now page.now.lines.now) }
+    ensures { OnOk result (sheets.new
+        ≡ sheets.old ++ figure_pages layout page.now.subject page.now.parties.now page.now.lines.now) }
 {
     match layout {
         Layout::Person => push_sections(alloc, sheets, page),

@@ -5,5 +5,6 @@ pub mod Spoken
 pub mod Traces
 pub mod Runs
 pub mod Reports
+pub mod LargeLimits
 pub mod Scenarios
 pub mod ScenarioRows

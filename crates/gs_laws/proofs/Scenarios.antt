@@ -4,6 +4,8 @@ use Rattle.std.specs.Cmp.Lexicographic.{slice_cmp}
 use Rattle.std.specs.Ordering.{match_ordering}
 use Rattle.std.specs.FinMap.{nat_cmp-IsAntisymmetric, slice_cmp-IsAntisymmetric}
 use Rattle.toml.specs.Data.{Data, Members, no_members, member, get_member}
+use Rattle.gs_plan.specs.declared.limits.Limits.{Limits}
+use Rattle.gs_plan.specs.declared.limits.Limits.TheVariants.{Large}
 use Rattle.gs_plan.specs.declared.plan.Plan.{Plan}
 use Rattle.gs_scenario.specs.declared.fault.ScenarioFault.{ScenarioFault}
 use Rattle.gs_scenario.specs.declared.scenario.tables.TableKind.TheVariants as kinds
@@ -13,6 +15,7 @@ use Rattle.gs_scenario.specs.ParamsOf.{shared_in, params_of}
 use Rattle.gs_scenario.specs.PlanOf.{Top, agreement_in, app_in, apps_key, capacity_key, dial_in, dials_key, explicit_key, line_in, params_key, peer_in, peers_key, plan_in, plan_of, plan_of_document, round_ms_key, rounds_key, script_key, seed_key, top_in, top_keys, topic_in, topics_key, workers_key}
 use Rattle.gs_laws.specs.Runs.{AreAlike, however_run}
 use Rattle.gs_laws.specs.Scenarios.{DifferInRunning, TextsAreOne, but_for, running_keys}
+use Rattle.gs_laws.proofs.LargeLimits.{described_within_large}
 use Rattle.gs_laws.proofs.Reports.{reports_one}
 
 -- ---- what a table holds but for some keys
@@ -67,7 +70,7 @@ then_same x y f g same alike = subst (λ (z : Read _). BothAlike (x >>= f) (z >>
 abbrev read_at : {A : Type 0} → Members → Key A → Read A
 read_at members key = read_key (record { path = []; members = members }) key
 
-module _ (text other : List ℕ) (differ : DifferInRunning text other) where
+module _ (limits : Limits) (text other : List ℕ) (differ : DifferInRunning text other) where
   -- where a key is read first that is another
   then_read : {A : Type 0} (key : Key A) (f g : A → Read Top) → is_one_of running_keys key.name ≡ false → ((v : A) → BothAlike (f v) (g v)) → BothAlike (read_at differ.members key >>= f) (read_at differ.others key >>= g)
   then_read key f g out alike =
@@ -75,7 +78,7 @@ module _ (text other : List ℕ) (differ : DifferInRunning text other) where
       sym (held_but_for running_keys key.name differ.members out) ∙ ap (get_member key.name) differ.same ∙ held_but_for running_keys key.name differ.others out in
       then_same (read_at differ.members key) (read_at differ.others key) f g (ap (key.reads ([] ++ key.name)) held) alike
 
-  tops_alike : BothAlike (top_in (record { path = []; members = differ.members })) (top_in (record { path = []; members = differ.others }))
+  tops_alike : BothAlike (top_in limits (record { path = []; members = differ.members })) (top_in limits (record { path = []; members = differ.others }))
   unfolding top_in
   tops_alike =
       then_any (only kinds.Top top_keys (record { path = []; members = differ.members })) (only kinds.Top top_keys (record { path = []; members = differ.others })) _ _ (λ mine theirs.
@@ -86,7 +89,7 @@ module _ (text other : List ℕ) (differ : DifferInRunning text other) where
       then_read seed_key _ _ refl (λ seed.
       then_read params_key _ _ refl (λ params.
       then_read topics_key _ _ refl (λ topics.
-      then_read peers_key _ _ refl (λ peers.
+      then_read (peers_key limits) _ _ refl (λ peers.
       then_read dials_key _ _ refl (λ dials.
       then_read apps_key _ _ refl (λ apps.
       then_read explicit_key _ _ refl (λ explicit.
@@ -142,30 +145,30 @@ rests_alike top workers other capacity another =
     then_alike (params_of shared topics) _ _ (λ params. refl))))))))
 
 -- the top table of a plan, and the plan by that
-record IsMadeOf (members : Members) (plan : Plan) : Type 0 where
+record IsMadeOf (limits : Limits) (members : Members) (plan : Plan) : Type 0 where
   top : Top
-  top_is : top_in (record { path = []; members = members }) ≡ Ok top
+  top_is : top_in limits (record { path = []; members = members }) ≡ Ok top
   plan_is : rest_of (but_running top) top.workers top.capacity ≡ Ok plan
 
-made_of : (members : Members) (plan : Plan) → plan_in members ≡ Ok plan → IsMadeOf members plan
+made_of : (limits : Limits) (members : Members) (plan : Plan) → plan_in limits members ≡ Ok plan → IsMadeOf limits members plan
 unfolding plan_in rest_of
-made_of members plan is = by (top_in (record { path = []; members = members })) refl is
+made_of limits members plan is = by (top_in limits (record { path = []; members = members })) refl is
   where
-    by : (found : Read Top) → top_in (record { path = []; members = members }) ≡ found → (found >>= (λ top. rest_of (but_running top) top.workers top.capacity)) ≡ Ok plan → IsMadeOf members plan
+    by : (found : Read Top) → top_in limits (record { path = []; members = members }) ≡ found → (found >>= (λ top. rest_of (but_running top) top.workers top.capacity)) ≡ Ok plan → IsMadeOf limits members plan
     by (Ok top) top_is plan_is = record { top = top; top_is = top_is; plan_is = plan_is }
     by (Err fault) top_is plan_is = absurd cc
 
-pub plans_alike : (text other : List ℕ) (plan another : Plan) → DifferInRunning text other → plan_of text ≡ Ok plan → plan_of other ≡ Ok another → AreAlike plan another
-plans_alike text other plan another differ is is' =
-    let a = made_of differ.members plan (sym (ap plan_of_document differ.is) ∙ is) in
-    let b = made_of differ.others another (sym (ap plan_of_document differ.other_is) ∙ is') in
-    let tops : but_running a.top ≡ but_running b.top = tops_alike text other differ a.top b.top a.top_is b.top_is in
+pub plans_alike : (limits others : Limits) (text other : List ℕ) (plan another : Plan) → DifferInRunning text other → plan_of limits text ≡ Ok plan → plan_of others other ≡ Ok another → AreAlike plan another
+plans_alike limits others text other plan another differ is is' =
+    let a = made_of Large differ.members plan (sym (ap (plan_of_document Large) differ.is) ∙ described_within_large limits text plan is) in
+    let b = made_of Large differ.others another (sym (ap (plan_of_document Large) differ.other_is) ∙ described_within_large others other another is') in
+    let tops : but_running a.top ≡ but_running b.top = tops_alike Large text other differ a.top b.top a.top_is b.top_is in
     let mine : but_however (rest_of (but_running b.top) a.top.workers a.top.capacity) ≡ Ok (however_run plan) =
     ap but_however (subst (λ (top : Top). rest_of top a.top.workers a.top.capacity ≡ Ok plan) tops a.plan_is) in
     got _ _ (sym mine ∙ rests_alike (but_running b.top) a.top.workers b.top.workers a.top.capacity b.top.capacity ∙ ap but_however b.plan_is)
 
 pub texts_one : TextsAreOne
-texts_one bytes more plan other report another differ mine theirs is is' =
-    let described : plan_of bytes ≡ Ok plan = subst (λ (text : List ℕ). plan_of text ≡ Ok plan) mine.whole mine.described in
-    let described' : plan_of more ≡ Ok other = subst (λ (text : List ℕ). plan_of text ≡ Ok other) theirs.whole theirs.described in
-    (reports_one plan other report another (plans_alike bytes more plan other differ described described') is is').text
+texts_one limits others bytes more plan other report another differ mine theirs is is' =
+    let described : plan_of limits bytes ≡ Ok plan = subst (λ (text : List ℕ). plan_of limits text ≡ Ok plan) mine.whole mine.described in
+    let described' : plan_of others more ≡ Ok other = subst (λ (text : List ℕ). plan_of others text ≡ Ok other) theirs.whole theirs.described in
+    (reports_one plan other report another (plans_alike limits others bytes more plan other differ described described') is is').text

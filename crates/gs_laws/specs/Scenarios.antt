@@ -2,6 +2,7 @@
 use Rattle.std.specs.Prelude.{◌≡◌, ℕ, if◌then◌else◌, List, [], ◌∷◌, Some}
 use Rattle.toml.specs.Data.{Members, no_members, member}
 use Rattle.toml.specs.Parse.{parse_document}
+use Rattle.gs_plan.specs.declared.limits.Limits.{Limits}
 use Rattle.gs_plan.specs.declared.plan.Plan.{Plan}
 use Rattle.gs_report.specs.declared.report.Report.{Report}
 use Rattle.gs_report.specs.Text.{report_text}
@@ -27,13 +28,13 @@ pub record DifferInRunning (text other : List ℕ) : Type 0 where
   pub other_is : parse_document other ≡ Some others
   pub same : but_for running_keys members ≡ but_for running_keys others
 
--- Reports of two such scenarios have one text.
+-- Reports of two such scenarios have one text, whichever limits are set for each.
 abbrev pub TextsAreOne : Type 0
 TextsAreOne =
-    (bytes more : List ℕ) (plan other : Plan) (report another : Report)
+    (limits others : Limits) (bytes more : List ℕ) (plan other : Plan) (report another : Report)
     → DifferInRunning bytes more
-    → IsScenario (Some bytes) plan
-    → IsScenario (Some more) other
+    → IsScenario limits (Some bytes) plan
+    → IsScenario others (Some more) other
     → IsReport plan report
     → IsReport other another
     → report_text plan report ≡ report_text other another

@@ -2,6 +2,11 @@
 //! Each law is only about its definitions, and its function does nothing.
 #![tactic(auto)]
 
+ghost use Rattle.std.specs.Prelude.{◌≡◌, ℕ, List, Ok};
+ghost use Rattle.gs_plan.specs.declared.limits.Limits.{Limits};
+ghost use Rattle.gs_plan.specs.declared.limits.Limits.TheVariants.{Large};
+ghost use Rattle.gs_plan.specs.declared.plan.Plan.{Plan};
+ghost use Rattle.gs_scenario.specs.PlanOf.{plan_of};
 ghost use Rattle.gs_laws.specs.Fixed.{APhaseIsFixed, AllIsSaidByTheEnd, RoundsAreSaidByTheirEnd};
 ghost use Rattle.gs_laws.specs.Runs.{ReportsAreOne, RunsAreOne, TracesAreOne};
 ghost use Rattle.gs_laws.specs.Scenarios.{TextsAreOne};
@@ -38,9 +43,17 @@ pub fn a_plan_has_one_report()
     ensures { ReportsAreOne }
 {}
 
-/// Reports of scenarios that differ at most in `workers` and `capacity` have the same text.
+/// Reports of scenarios that differ at most in `workers` and `capacity` have the same text, whichever limits each was read
+/// within.
 pub fn a_scenario_has_one_report()
     ensures { TextsAreOne }
+{}
+
+/// A scenario that has a plan within some limits has the same plan within the large ones.
+pub fn large_limits_change_no_plan()
+    ensures { (limits : Limits) (text : List ℕ) (plan : Plan)
+        → plan_of limits text ≡ Ok plan
+        → plan_of Large text ≡ Ok plan }
 {}
 
 #[cfg(test)]

@@ -27,7 +27,7 @@ pub fn lives_of<R: Wait + Drop>(
     alloc: Global,
     results: Vec<Result<gs_peer::FinishedTask<LinkEnds<R>>, PeerFault>>,
 ) -> Result<Lives, NetFault>
-    requires { length results.items ≤ 64 }
+    requires { length results.items ≤ 4_096 }
     ensures lives { IfOk result (λ lives. (given : List (Life (List Pair)))
         × (map Ok given ≡ results.items)
         × IsTakenApart given lives) }
@@ -70,7 +70,7 @@ pub fn lives_of<R: Wait + Drop>(
 fn first_without_memory<R: Wait + Drop>(
     results: &[Result<gs_peer::FinishedTask<LinkEnds<R>>, PeerFault>],
 ) -> Option<PeerNo>
-    requires { length results.now ≤ 64 }
+    requires { length results.now ≤ 4_096 }
     ensures { result ≡ first_without_memory results.now }
 {
     match place_of_want(results) {

@@ -394,6 +394,3 @@ fn first_broken_timing(topics: &[(Topic, TopicParams)]) -> Option<Check>
     }
     None
 }
-
-#[cfg(test)]
-mod tests;

@@ -82,6 +82,3 @@ pub fn a_pick_is_the_front_of_a_shuffle<W: Words>()
         → is_member same_peer (picked W.word W.after k candidates words) p ≡
         is_member same_peer (take k (shuffled 0 (next_words W.word W.after k words) candidates)) p }
 {}
-
-#[cfg(test)]
-mod tests;

@@ -71,6 +71,3 @@ pub fn seeded_words_give_their_list_first()
         → next_words seeded_word seeded_after (length list + n) (new_seeded list seed peer) ≡
         list ++ next_words generator_word generator_after n (generator_of seed peer) }
 {}
-
-#[cfg(test)]
-mod tests;

@@ -9,16 +9,17 @@ use Rattle.gs_picture.specs.declared.discs.Class.TheVariants.{Fair, BelowZero, B
 use Rattle.gs_picture.specs.declared.discs.Disc.{Disc}
 use Rattle.gs_picture.specs.declared.edges.Edge.{Edge}
 use Rattle.gs_picture.specs.declared.places.Point.{Point}
-use Rattle.gs_picture.specs.Places.{degrees, disc_radius, label_radius, most_level, on_circle}
+use Rattle.gs_picture.specs.Places.{degrees, label_radius, most_level, most_named, on_circle, radius_of}
 use Rattle.gs_picture.specs.Texts.{escaped_all, place_text}
-use Rattle.gs_picture.specs.declared.pieces.Piece.TheVariants.{EdgeBegins, EdgeFrom, EdgeTo, PathEnds, DiscBegins, MarkPlace, DiscMark, DiscEnds, NameBegins, NameTurn, NameText, TextEnds}
-use Rattle.gs_picture.specs.Pieces.{piece}
+use Rattle.gs_picture.specs.declared.pieces.Piece.TheVariants.{EdgeBegins, EdgeFrom, EdgeTo, PathEnds, DiscBegins, MarkPlace, DiscMark, DiscEnds, NameBegins, NameTurn, NameText, TagEnds, TextEnds}
+use Rattle.gs_picture.specs.declared.pieces.Part.TheVariants.{CrowdBegins, GroupEnds}
+use Rattle.gs_picture.specs.Pieces.{part, piece}
 
 -- ---- edges
 
 -- where the disc of a peer stands, of `count` peers
 abbrev pub stands : ℕ → PeerNo → Point
-stands count p = on_circle disc_radius (degrees count p)
+stands count p = on_circle (radius_of count p) (degrees count p)
 
 -- an arrow shows that only the one at its tail has the other
 abbrev pub edge_kind : Bool → List ℕ
@@ -93,8 +94,26 @@ label_at level a name =
 abbrev pub label_text : Plan → ℕ → Disc → List ℕ
 label_text plan count d = label_at (nat_le count most_level) (degrees count d.peer) (name_of plan d.peer)
 
+-- the names of all discs, or none where there are too many
+abbrev pub labels_text : Plan → ℕ → List Disc → List ℕ
+labels_text plan count discs = if nat_le count most_named then flat_map (label_text plan count) discs else []
+
+-- ---- many peers
+
+-- how small discs are, and how faint edges
+abbrev pub crowd_kind : ℕ → List ℕ
+crowd_kind count = if nat_le count 256 then codes "hundreds" else codes "thousands"
+
+-- where there are too many peers for names, a group around edges and discs
+abbrev pub crowd_begins : ℕ → List ℕ
+crowd_begins count = if nat_le count most_named then [] else part CrowdBegins ++ crowd_kind count ++ piece TagEnds
+
+abbrev pub crowd_ends : ℕ → List ℕ
+crowd_ends count = if nat_le count most_named then [] else part GroupEnds
+
 -- ---- the circle
 
 unfoldable pub circle_text : Plan → ℕ → List Edge → List Disc → List ℕ
 circle_text plan count edges discs =
-    flat_map (edge_text count) edges ++ flat_map (disc_text count) discs ++ flat_map (label_text plan count) discs
+    crowd_begins count ++ flat_map (edge_text count) edges ++ flat_map (disc_text count) discs ++ crowd_ends count
+    ++ labels_text plan count discs

@@ -22,7 +22,9 @@ scores_about p scores = map (λ x. x.1) (filter (λ x. same_peer x.0 p) scores)
 
 -- the scores that a peer's neighbours, among some peers, give it at the end
 abbrev pub scores_of : Chosen → List (PeerNo × Finished) → PeerNo → List ℤ
-scores_of of peers p = flat_map (λ (x : PeerNo × Finished). scores_about p x.1.scores) (filter (λ (x : PeerNo × Finished). is_chosen of x.0) peers)
+scores_of of peers p =
+    flat_map (λ (x : PeerNo × Finished). scores_about p x.1.scores)
+    (filter (λ (x : PeerNo × Finished). is_chosen of x.0) peers)
 
 -- the lower of two scores, where the first may be absent
 abbrev pub lower : Option ℤ → ℤ → Option ℤ

@@ -1,9 +1,9 @@
 -- What stands around the circle and the chart.
-use Rattle.std.specs.Prelude.{ℕ, ◌*◌, max, min, nat_le, if◌then◌else◌, List, ◌++◌, decimal, fold, length}
+use Rattle.std.specs.Prelude.{ℕ, ◌*◌, ◌||◌, max, min, nat_le, nat_lt, if◌then◌else◌, List, ◌++◌, decimal, fold, length}
 use Rattle.gs_base.specs.declared.names.Topic.{Topic}
 use Rattle.gs_plan.specs.declared.plan.Plan.{Plan}
 use Rattle.gs_plan.specs.declared.plan.PlannedPeer.{PlannedPeer}
-use Rattle.gs_picture.specs.Places.{most_level}
+use Rattle.gs_picture.specs.Places.{most_level, most_named}
 use Rattle.gs_picture.specs.Texts.{escaped_all}
 use Rattle.gs_picture.specs.declared.pieces.Piece.TheVariants.{TextEnds}
 use Rattle.gs_picture.specs.declared.pieces.Part.TheVariants.{Opening, ViewBox, OpeningEnds, TitleBegins, Peers, Rounds, Messages, GroupBegins, GroupPlaced}
@@ -15,7 +15,7 @@ longest_name peers = fold (λ so_far (peer : PlannedPeer). max so_far (length pe
 
 -- how much room names that stand along the radius take above the circle, and below it
 abbrev pub room : ℕ → ℕ → ℕ
-room count letters = if nat_le count most_level then 0 else 7 * min 32 letters
+room count letters = if nat_le count most_level || nat_lt most_named count then 0 else 7 * min 32 letters
 
 abbrev pub room_of : Plan → ℕ
 room_of plan = room (length plan.peers) (longest_name plan.peers)

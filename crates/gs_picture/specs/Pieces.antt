@@ -3,7 +3,7 @@ use Rattle.std.specs.Prelude.{ℕ, ◌++◌, List, codes}
 use Rattle.gs_picture.specs.declared.pieces.Piece.{Piece}
 use Rattle.gs_picture.specs.declared.pieces.Piece.TheVariants.{EdgeBegins, EdgeFrom, EdgeTo, PathEnds, DiscBegins, MarkPlace, DiscMark, DiscEnds, NameBegins, NameTurn, NameText, TextEnds, WordsAcross, WordsDown, TagEnds, LegendHead, LegendHeadEnds}
 use Rattle.gs_picture.specs.declared.pieces.Part.{Part}
-use Rattle.gs_picture.specs.declared.pieces.Part.TheVariants.{Opening, ViewBox, OpeningEnds, TitleBegins, Peers, Rounds, Messages, GroupBegins, GroupPlaced, GroupEnds, PictureEnds, ChartHead, ChartHeadEnds, MissedBegins, MissedOf, MissedEnds, LevelBegins, LevelLabel, LevelEnds, TickBegins, TickLabel, TickText, CourseBegins, CourseLine, CourseEnds}
+use Rattle.gs_picture.specs.declared.pieces.Part.TheVariants.{Opening, ViewBox, OpeningEnds, TitleBegins, Peers, Rounds, Messages, GroupBegins, GroupPlaced, GroupEnds, CrowdBegins, PictureEnds, ChartHead, ChartHeadEnds, MissedBegins, MissedOf, MissedEnds, LevelBegins, LevelLabel, LevelEnds, TickBegins, TickLabel, TickText, CourseBegins, CourseLine, CourseEnds}
 
 -- in the circle and the legend
 unfoldable pub piece : Piece → List ℕ
@@ -37,6 +37,10 @@ part Messages = codes ", messages drawn: "
 part GroupBegins = codes "<g transform=\"translate(0 "
 part GroupPlaced = codes ")\">\n"
 part GroupEnds = codes "</g>\n"
+part CrowdBegins =
+    codes "<style>\n.crowd .disc circle{stroke-width:.5}\n.crowd text{display:none}\n.crowd path{marker-end:none}\n"
+    ++ codes ".hundreds .disc circle{r:3px}\n.hundreds path{stroke-opacity:.4}\n"
+    ++ codes ".thousands .disc circle{r:2px}\n.thousands path{stroke-opacity:.05}\n</style>\n<g class=\"crowd "
 part PictureEnds = codes "</g>\n</svg>\n"
 part ChartHead = codes "<text class=\"head\" x=\"60\" y=\"700\">Share of the subscribers"
 part ChartHeadEnds = codes " that each message reached</text>\n"
@@ -84,7 +88,8 @@ style_text =
     ++ codes ".publish circle{fill:#cf222e;stroke:#cf222e}\n.graylist circle{fill:#6e40c9;stroke:#6e40c9}\n"
     ++ codes ".unscored circle{fill:#6e7781;stroke:#6e7781}\n.off circle{fill:#fff}\n.off text{fill:#1f2328}\n"
     ++ codes ".grid{stroke:#d0d7de}\n.course{stroke:#0969da;stroke-width:1.5}\n.some{stroke-opacity:.5}\n"
-    ++ codes ".many{stroke-opacity:.2}\n.all{stroke:#1f2328;stroke-width:5;stroke-opacity:.6}\n@media (prefers-color-scheme:dark){\ntext,.off text{fill:#e6edf3}\n"
+    ++ codes ".many{stroke-opacity:.2}\n.all{stroke:#1f2328;stroke-width:5;stroke-opacity:.6}\n"
+    ++ codes "@media (prefers-color-scheme:dark){\ntext,.off text{fill:#e6edf3}\n"
     ++ codes ".back,.off circle{fill:#0d1117}\n.both{stroke:#9198a1}\n.grid{stroke:#30363d}\n"
     ++ codes ".course{stroke:#58a6ff}\n.all{stroke:#e6edf3}\n}\n</style>\n"
     ++ codes "<defs><marker id=\"head\" refX=\"18\" refY=\"5\" markerWidth=\"10\" markerHeight=\"10\" "

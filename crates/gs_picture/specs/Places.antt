@@ -3,7 +3,7 @@ use Rattle.std.specs.Prelude.{ℕ, ◌+◌, ◌-◌, ◌*◌, ◌/◌, ◌%◌, 
 use Rattle.gs_base.specs.declared.names.PeerNo.{PeerNo}
 use Rattle.gs_picture.specs.declared.places.Point.{Point}
 
--- how far discs are from the centre of the circle, and how far names
+-- how far discs on the outer circle are from the centre, and how far names
 abbrev pub disc_radius : ℕ
 disc_radius = 220
 
@@ -20,6 +20,15 @@ centre_y = 310
 -- names stand level where there are up to this many peers, and along the radius where there are more
 abbrev pub most_level : ℕ
 most_level = 16
+
+-- names stand next to discs where there are up to this many peers; discs are small where there are more
+abbrev pub most_named : ℕ
+most_named = 64
+
+-- How far the disc of a peer is from the centre, of `count` peers. There is one more circle for each 360 peers. Each is 10 units
+-- within the one before it, and peers stand on them in turn.
+abbrev pub radius_of : ℕ → PeerNo → ℕ
+radius_of count p = disc_radius - 10 * (p.0 % (count / 360 + 1))
 
 -- the sines of 0 to 90 degrees, in ten-thousandths
 unfoldable pub sines : List ℕ

@@ -30,7 +30,8 @@ abbrev pub most_names : ℕ
 most_names = 32
 
 abbrev pub shortened : List ℕ → List ℕ
-shortened names = if nat_le (length names) most_names then escaped_all names else escaped_all (take most_names names) ++ codes ".."
+shortened names =
+    if nat_le (length names) most_names then escaped_all names else escaped_all (take most_names names) ++ codes ".."
 
 -- which peers count, by their names, where not all do
 abbrev pub among_text : Option (List ℕ) → List ℕ

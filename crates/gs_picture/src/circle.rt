@@ -1,13 +1,13 @@
 //! The texts of what stands on and in the circle.
 ghost use Rattle.std.specs.Prelude.{◌≡◌, ◌++◌, length, OnOk};
 ghost use Rattle.std.specs.List.{flat_map};
-ghost use Rattle.gs_picture.specs.Circle.{anchor, circle_text, class_mark, class_name, class_words, disc_at, disc_text, edge_kind, edge_text, filling, label_at, label_text, outward, stands, turn};
+ghost use Rattle.gs_picture.specs.Circle.{anchor, circle_text, class_mark, class_name, class_words, crowd_begins, crowd_ends, crowd_kind, disc_at, disc_text, edge_kind, edge_text, filling, label_at, label_text, labels_text, outward, stands, turn};
 
 use crate::discs::{Class, Disc};
 use crate::edges::Edge;
 use crate::pen::{push, push_name, push_number, push_place};
-use crate::pieces::{Piece, push_piece};
-use crate::places::{DISC_RADIUS, LABEL_RADIUS, MOST_LEVEL, Point, degrees, on_circle};
+use crate::pieces::{Part, Piece, push_part, push_piece};
+use crate::places::{LABEL_RADIUS, MOST_LEVEL, MOST_NAMED, Point, degrees, on_circle, radius_of};
 use gs_base::PeerNo;
 use gs_plan::Plan;
 use gs_report::name_of;
@@ -26,9 +26,43 @@ pub(crate) fn push_circle(
         ≡ text.old.items ++ circle_text plan.now (length plan.now.peers) edges.now discs.now) }
 {
     let count = plan.peers.len();
+    begin_crowd(text, count)?;
     push_edges(alloc, text, count, edges)?;
     push_discs(alloc, text, count, discs)?;
+    end_crowd(text, count)?;
     push_labels(alloc, text, plan, count, discs)
+}
+
+/// Begins a group of small discs and faint edges, if there are too many peers for names.
+fn begin_crowd(text: &mut Vec<u8>, count: usize) -> Result<(), AllocError>
+    ensures { OnOk result (text.new.items ≡ text.old.items ++ crowd_begins count) }
+{
+    if count <= MOST_NAMED {
+        return Ok(());
+    }
+    push_part(text, Part::CrowdBegins)?;
+    push(text, crowd_kind(count))?;
+    push_piece(text, Piece::TagEnds)
+}
+
+/// How small discs are, and how faint edges.
+fn crowd_kind(count: usize) -> &'static str
+    ensures { result.now ≡ crowd_kind count }
+{
+    if count <= 256 {
+        "hundreds"
+    } else {
+        "thousands"
+    }
+}
+
+fn end_crowd(text: &mut Vec<u8>, count: usize) -> Result<(), AllocError>
+    ensures { OnOk result (text.new.items ≡ text.old.items ++ crowd_ends count) }
+{
+    if count <= MOST_NAMED {
+        return Ok(());
+    }
+    push_part(text, Part::GroupEnds)
 }
 
 fn push_edges(
@@ -66,6 +100,21 @@ fn push_labels(
     count: usize,
     discs: &[Disc],
 ) -> Result<(), AllocError>
+    ensures { OnOk result (text.new.items ≡ text.old.items ++ labels_text plan.now count discs.now) }
+{
+    if count > MOST_NAMED {
+        return Ok(());
+    }
+    push_each_label(alloc, text, plan, count, discs)
+}
+
+fn push_each_label(
+    alloc: Global,
+    text: &mut Vec<u8>,
+    plan: &Plan,
+    count: usize,
+    discs: &[Disc],
+) -> Result<(), AllocError>
     ensures { OnOk result (text.new.items ≡ text.old.items ++ flat_map (label_text plan.now count) discs.now) }
 {
     for disc in discs {
@@ -78,7 +127,7 @@ fn push_labels(
 fn stands(count: usize, peer: PeerNo) -> Point
     ensures { result ≡ stands count peer }
 {
-    on_circle(DISC_RADIUS, degrees(count, peer))
+    on_circle(radius_of(count, peer), degrees(count, peer))
 }
 
 fn push_edge(alloc: Global, text: &mut Vec<u8>, count: usize, edge: Edge) -> Result<(), AllocError>

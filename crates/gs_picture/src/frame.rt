@@ -4,7 +4,7 @@ ghost use Rattle.gs_picture.specs.Frame.{longest_name, lowered, opening, room, r
 
 use crate::pen::{push_name, push_number};
 use crate::pieces::{Part, Piece, push_part, push_piece};
-use crate::places::MOST_LEVEL;
+use crate::places::{MOST_LEVEL, MOST_NAMED};
 use gs_base::Topic;
 use gs_plan::{Plan, PlannedPeer};
 use std::alloc::{AllocError, Global};
@@ -19,7 +19,7 @@ pub(crate) fn room_of(plan: &Plan) -> u64
 fn room(count: usize, letters: usize) -> u64
     ensures { result ≡ room count letters }
 {
-    if count <= MOST_LEVEL {
+    if count <= MOST_LEVEL || count > MOST_NAMED {
         return 0;
     }
     7 * letters.min(32) as u64

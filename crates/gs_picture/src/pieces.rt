@@ -69,6 +69,19 @@ text,.off text{fill:#e6edf3}
 <rect class=\"back\" width=\"100%\" height=\"100%\"/>
 ";
 
+/// The style of small discs and faint edges, and the beginning of their group.
+const CROWD: &str = "\
+<style>
+.crowd .disc circle{stroke-width:.5}
+.crowd text{display:none}
+.crowd path{marker-end:none}
+.hundreds .disc circle{r:3px}
+.hundreds path{stroke-opacity:.4}
+.thousands .disc circle{r:2px}
+.thousands path{stroke-opacity:.05}
+</style>
+<g class=\"crowd ";
+
 /// A text in the circle or the legend.
 #[derive(Clone, Copy, Debug, PartialEq, Eq)]
 pub(crate) enum Piece {
@@ -104,6 +117,7 @@ pub(crate) enum Part {
     GroupBegins,
     GroupPlaced,
     GroupEnds,
+    CrowdBegins,
     PictureEnds,
     ChartHead,
     ChartHeadEnds,
@@ -163,6 +177,7 @@ fn text_of(one: Part) -> &'static str
         Part::GroupBegins => "<g transform=\"translate(0 ",
         Part::GroupPlaced => ")\">\n",
         Part::GroupEnds => "</g>\n",
+        Part::CrowdBegins => CROWD,
         Part::PictureEnds => "</g>\n</svg>\n",
         Part::ChartHead => { "<text class=\"head\" x=\"60\" y=\"700\">Share of the subscribers" }
         Part::ChartHeadEnds => " that each message reached</text>\n",

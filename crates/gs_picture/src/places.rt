@@ -1,17 +1,20 @@
 //! Where peers stand on the circle.
 ghost use Rattle.std.specs.Prelude.{◌≡◌, slice_get, unwrap_or};
-ghost use Rattle.gs_picture.specs.Places.{degrees, label_radius, leg, on_circle, sine};
+ghost use Rattle.gs_picture.specs.Places.{degrees, label_radius, leg, on_circle, radius_of, sine};
 
 use gs_base::PeerNo;
 
-/// How far discs are from the centre of the circle.
-pub(crate) const DISC_RADIUS: u16 = 220;
+/// How far discs on the outer circle are from the centre.
+const DISC_RADIUS: u16 = 220;
 
 /// How far names are from the centre of the circle.
 pub(crate) const LABEL_RADIUS: u16 = 238;
 
 /// Names stand level where there are up to this many peers, and along the radius where there are more.
 pub(crate) const MOST_LEVEL: usize = 16;
+
+/// Names stand next to discs where there are up to this many peers. Discs are small where there are more.
+pub(crate) const MOST_NAMED: usize = 64;
 
 /// A place in the picture: its distance from the left and from above.
 #[derive(Clone, Copy, Debug, PartialEq, Eq)]
@@ -81,6 +84,15 @@ pub(crate) fn on_circle(radius: u16, degrees: u64) -> Point
         x: 460u128.saturating_sub(u128::from(leg(radius, 360u64.saturating_sub(degrees)))),
         y: 310u128.saturating_sub(u128::from(leg(radius, degrees - 270))),
     }
+}
+
+/// How far the disc of a peer is from the centre, of `count` peers. There is one more circle for each 360 peers. Each is 10
+/// units within the one before it, and peers stand on them in turn.
+pub(crate) fn radius_of(count: usize, peer: PeerNo) -> u16
+    ensures { result ≡ radius_of count peer }
+{
+    let circle = u64::from(peer.0) % (count as u64 / 360 + 1);
+    u64::from(DISC_RADIUS).saturating_sub(10 * circle) as u16
 }
 
 /// At how many degrees a peer stands, of `count` peers.

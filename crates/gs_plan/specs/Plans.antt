@@ -7,6 +7,9 @@ use Rattle.gs_base.specs.declared.names.PeerNo.{PeerNo}
 use Rattle.gs_base.specs.declared.names.Topic.{Topic}
 use Rattle.gs_params.specs.Params.{checked}
 use Rattle.gs_params.specs.declared.topic_params.TopicParams.{TopicParams}
+use Rattle.gs_plan.specs.Limits.{most_peers}
+use Rattle.gs_plan.specs.declared.limits.Limits.{Limits}
+use Rattle.gs_plan.specs.declared.limits.Limits.TheVariants.{Large}
 use Rattle.gs_plan.specs.declared.plan.App.{App}
 use Rattle.gs_plan.specs.declared.plan.Dial.{Dial}
 use Rattle.gs_plan.specs.declared.plan.Explicit.{Explicit}
@@ -25,9 +28,6 @@ longest_round = 60_000
 -- the highest number of the last round
 abbrev pub most_rounds : ℕ
 most_rounds = 100_000
-
-abbrev pub most_peers : ℕ
-most_peers = 64
 
 -- the most topics that have parameters
 abbrev pub most_planned_topics : ℕ
@@ -123,8 +123,8 @@ what_word (HangUp to) = codes "hang_up"
 
 -- ---- plans
 
--- What holds for every plan that was read.
-pub record IsInRange (plan : Plan) : Type 0 where
+-- What holds for every plan that was read within these limits.
+pub record IsWithin (limits : Limits) (plan : Plan) : Type 0 where
   -- numbers and lengths are in range
   pub some_rounds : 1 ≤ plan.rounds
   pub rounds : plan.rounds ≤ most_rounds
@@ -136,7 +136,7 @@ pub record IsInRange (plan : Plan) : Type 0 where
   pub capacity : plan.capacity ≤ highest_capacity
   pub seed : plan.seed < 2 ^ 63
   pub some_peers : 1 ≤ length plan.peers
-  pub peers : length plan.peers ≤ most_peers
+  pub peers : length plan.peers ≤ most_peers limits
   pub some_topics : 1 ≤ length plan.params.topics
   pub topics : length plan.params.topics ≤ most_planned_topics
   -- each peer has its own name, and so has each topic
@@ -170,3 +170,7 @@ pub record IsInRange (plan : Plan) : Type 0 where
   pub lines_to
       : All (λ (line : Line). IfSome (neighbour_of line.what) (λ to. are_joined plan.dials line.peer to ≡ true)) plan.script
   pub lines_raw : All (λ (line : Line). IfSome (raw_of line.what) (λ bytes. length bytes ≤ longest_raw)) plan.script
+
+-- what holds for every plan that was read
+abbrev pub IsInRange : Plan → Type 0
+IsInRange plan = IsWithin Large plan

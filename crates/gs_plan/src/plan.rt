@@ -1,6 +1,9 @@
 ghost use Rattle.std.specs.Prelude.{◌≡◌};
-ghost use Rattle.gs_plan.specs.Plans.{are_joined, highest_app_score, joins, longest_raw, longest_round, most_peers, most_rounds};
+ghost use Rattle.gs_plan.specs.Plans.{are_joined, highest_app_score, joins, longest_raw, longest_round, most_rounds};
+ghost use Rattle.gs_plan.specs.Limits.{longest_input, most_peers};
+ghost use Rattle.gs_plan.specs.declared.limits.Limits.TheVariants.{Large};
 
+use crate::limits::{LONGEST_INPUT, MOST_PEERS};
 use bytes::Bytes;
 use gs_base::{ExactClone, PeerNo, Seq, Text, Topic, clone_of};
 use gs_params::Params;
@@ -11,9 +14,6 @@ pub const LONGEST_ROUND: u64 = 60_000;
 
 /// The highest number of the last round.
 pub const MOST_ROUNDS: u64 = 100_000;
-
-/// The most peers of a plan.
-pub const MOST_PEERS: usize = 64;
 
 /// The most bytes that a line of the script puts on a link unchanged.
 pub const LONGEST_RAW: usize = 2_097_152;
@@ -36,7 +36,7 @@ pub struct Plan {
     pub seed: u64,
     /// The parameters of the peers, with those of each topic, in file order: 1 to 32 different ones.
     pub params: Params,
-    /// The peers in file order: 1 to 64, with different names. A peer's number is its index.
+    /// The peers in file order: 1 to 4,096, with different names. A peer's number is its index.
     pub peers: Seq<PlannedPeer>,
     /// The dials in file order. No peer dials itself, and any two peers have at most one dial.
     pub dials: Seq<Dial>,
@@ -160,7 +160,8 @@ fn joins(one: PeerNo, other: PeerNo, dial: &Dial) -> bool
 pub fn limits_of_plans()
     ensures round { LONGEST_ROUND ≡ longest_round }
     ensures rounds { MOST_ROUNDS ≡ most_rounds }
-    ensures peers { MOST_PEERS ≡ most_peers }
+    ensures peers { MOST_PEERS ≡ most_peers Large }
+    ensures input { LONGEST_INPUT ≡ longest_input Large }
     ensures raw { LONGEST_RAW ≡ longest_raw }
     ensures score { HIGHEST_APP_SCORE ≡ highest_app_score }
 {}

@@ -1,6 +1,7 @@
 -- What results from the reading of an input, and from the printing of a text. Each of their outcomes has its own end of the
 -- program.
 use Rattle.std.specs.Prelude.{◌≡◌, ℕ, List, codes, Option, Some, None, Result, Ok, Err}
+use Rattle.gs_plan.specs.declared.limits.Limits.{Limits}
 use Rattle.gs_plan.specs.declared.plan.Plan.{Plan}
 use Rattle.gs_plan.specs.Plans.{IsInRange}
 use Rattle.gs_scenario.specs.declared.fault.ScenarioFault.{ScenarioFault}
@@ -28,21 +29,22 @@ GoesOn (Err fault) result errors errors' = (result ≡ Err ends.ScenarioRefused)
 
 -- How the program ends where an input was not read to its end. Only `Failed` ends it as a failed input, and each other fault
 -- as a refused scenario.
-abbrev pub EndsUnread : ReadFault → Result Plan ExitStatus → (errors errors' : Option (List ℕ)) → Type 0
-EndsUnread reads.Failed result errors errors' =
+abbrev pub EndsUnread : Limits → ReadFault → Result Plan ExitStatus → (errors errors' : Option (List ℕ)) → Type 0
+EndsUnread limits reads.Failed result errors errors' =
     (result ≡ Err ends.InputFailed) × AppendsFront errors errors' (codes "input failed\n")
-EndsUnread reads.TooLong result errors errors' = GoesOn (Err input_too_long) result errors errors'
-EndsUnread reads.NoMemory result errors errors' = GoesOn (Err NoMemory) result errors errors'
+EndsUnread limits reads.TooLong result errors errors' = GoesOn (Err (input_too_long limits)) result errors errors'
+EndsUnread limits reads.NoMemory result errors errors' = GoesOn (Err NoMemory) result errors errors'
 
 -- what a text is read as: its plan, or its refusal
-abbrev pub IsPlanned : List ℕ → Result Plan ScenarioFault → Type 0
-IsPlanned text (Ok plan) = IsScenario (Some text) plan × IsInRange plan
-IsPlanned text (Err fault) = IsRefusal text fault
+abbrev pub IsPlanned : Limits → List ℕ → Result Plan ScenarioFault → Type 0
+IsPlanned limits text (Ok plan) = IsScenario limits (Some text) plan × IsInRange plan
+IsPlanned limits text (Err fault) = IsRefusal limits text fault
 
 -- how the program goes on after a text that was read whole
-pub record GoesOnWith (text : List ℕ) (result : Result Plan ExitStatus) (errors errors' : Option (List ℕ)) : Type 0 where
+pub record GoesOnWith (limits : Limits) (text : List ℕ) (result : Result Plan ExitStatus)
+    (errors errors' : Option (List ℕ)) : Type 0 where
   pub planned : Result Plan ScenarioFault
-  pub is_planned : IsPlanned text planned
+  pub is_planned : IsPlanned limits text planned
   pub goes_on : GoesOn planned result errors errors'
 
 -- ---- printing

@@ -4,6 +4,7 @@ use Rattle.std.specs.Io.KnownBytes.{Appends, IsAtEnd, Keeps}
 use Rattle.gs_scenario.specs.declared.fault.ScenarioFault.{ScenarioFault}
 use Rattle.gs_scenario.specs.declared.fault.ScenarioFault.TheVariants.{NoMemory}
 use Rattle.gs_base.specs.declared.names.PeerNo.{PeerNo}
+use Rattle.gs_plan.specs.declared.limits.Limits.{Limits}
 use Rattle.gs_plan.specs.declared.plan.Plan.{Plan}
 use Rattle.gs_seats.specs.declared.fault.NetFault.{NetFault}
 use Rattle.gs_seats.specs.declared.fault.NetFault.TheVariants as faults
@@ -60,17 +61,18 @@ pub record TellsFault (plan : Plan) (fault : NetFault) (errors errors' : Option 
 -- the second after.
 
 -- the line of the scenario's refusal is on errors, or a front of it, and nothing more on the output
-pub record ScenarioRefused (input output output' errors errors' : Option (List ℕ)) : Type 0 where
+pub record ScenarioRefused (limits : Limits) (input output output' errors errors' : Option (List ℕ)) : Type 0 where
   pub fault : ScenarioFault
-  pub refused : IfSome input (λ bytes. IsRefusal bytes fault)
+  pub refused : IfSome input (λ bytes. IsRefusal limits bytes fault)
   pub line : AppendsFront errors errors' (refusal_line fault)
   pub silent : Keeps output output'
 
 -- A run of the scenario met a fault, or memory ran out for the text about the run. The line of that is on errors, or a
 -- front of it, and the output has nothing more.
-pub record RunRefused (needs_threads : Bool) (input output output' errors errors' : Option (List ℕ)) : Type 0 where
+pub record RunRefused (limits : Limits) (needs_threads : Bool)
+    (input output output' errors errors' : Option (List ℕ)) : Type 0 where
   pub plan : Plan
-  pub scenario : IsScenario input plan
+  pub scenario : IsScenario limits input plan
   pub fault : NetFault
   pub met : MayMeet needs_threads fault
   pub tells : TellsFault plan fault errors errors'
@@ -90,12 +92,12 @@ status_of ends.TextRefused = 2
 status_of ends.InputFailed = 3
 status_of ends.OutputFailed = 3
 
--- for a program that writes this text about a report
-module _ (text_of : Plan → Report → List ℕ) where
+-- for a program that takes scenarios within these limits, and writes this text about a report
+module _ (limits : Limits) (text_of : Plan → Report → List ℕ) where
   -- nothing of the scenario is left to read; the whole text about its run is on the output, and nothing more on errors
   pub record Reported (input input' output output' errors errors' : Option (List ℕ)) : Type 0 where
     pub plan : Plan
-    pub scenario : IsScenario input plan
+    pub scenario : IsScenario limits input plan
     pub at_end : IsAtEnd input'
     pub report : Report
     pub run : IsReport plan report
@@ -105,7 +107,7 @@ module _ (text_of : Plan → Report → List ℕ) where
   -- a front of the text about a run of the scenario is on the output, and then the output failed
   pub record OutputFailed (input output output' errors errors' : Option (List ℕ)) : Type 0 where
     pub plan : Plan
-    pub scenario : IsScenario input plan
+    pub scenario : IsScenario limits input plan
     pub report : Report
     pub run : IsReport plan report
     pub text : AppendsFront output output' (text_of plan report)
@@ -115,28 +117,28 @@ module _ (text_of : Plan → Report → List ℕ) where
   -- line for out of memory is on errors, or a front of it.
   pub record TextRefused (input output output' errors errors' : Option (List ℕ)) : Type 0 where
     pub plan : Plan
-    pub scenario : IsScenario input plan
+    pub scenario : IsScenario limits input plan
     pub report : Report
     pub run : IsReport plan report
     pub text : AppendsFront output output' (text_of plan report)
     pub line : AppendsFront errors errors' (codes "run refused: 24\n")
 
--- for a program that writes this text, in parts or as a whole
-module _ (text_of : Plan → Report → List ℕ) (in_parts : Bool) where
+-- for a program that takes scenarios within these limits, and writes this text, in parts or as a whole
+module _ (limits : Limits) (text_of : Plan → Report → List ℕ) (in_parts : Bool) where
   -- what each status says, for runs that need threads or runs that need none
   abbrev pub EndsAs : (needs_threads : Bool) → ExitStatus → (input input' output output' errors errors' : Option (List ℕ))
       → Type 0
   EndsAs needs ends.Reported input input' output output' errors errors' =
-      Reported text_of input input' output output' errors errors'
+      Reported limits text_of input input' output output' errors errors'
   EndsAs needs ends.ScenarioRefused input input' output output' errors errors' =
-      ScenarioRefused input output output' errors errors'
+      ScenarioRefused limits input output output' errors errors'
   EndsAs needs ends.RunRefused input input' output output' errors errors' =
-      RunRefused needs input output output' errors errors'
+      RunRefused limits needs input output output' errors errors'
   EndsAs needs ends.TextRefused input input' output output' errors errors' =
-      (in_parts ≡ true) × TextRefused text_of input output output' errors errors'
+      (in_parts ≡ true) × TextRefused limits text_of input output output' errors errors'
   EndsAs needs ends.InputFailed input input' output output' errors errors' = InputFailed output output' errors errors'
   EndsAs needs ends.OutputFailed input input' output output' errors errors' =
-      OutputFailed text_of input output output' errors errors'
+      OutputFailed limits text_of input output output' errors errors'
 
   -- the process ends with the status of an end, and the streams are as that end says
   pub record EndsWith (needs_threads : Bool) (status : ℕ) (input input' output output' errors errors' : Option (List ℕ))

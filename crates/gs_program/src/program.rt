@@ -14,7 +14,7 @@ use crate::printer::{PrintFault, Printer};
 use crate::reading::plan_after;
 use crate::telling::tell_fault;
 use gs_direct::run_direct;
-use gs_plan::Plan;
+use gs_plan::{Limits, Plan};
 use gs_report::Report;
 use gs_seats::NetFault;
 use gs_streams::{read_input, try_to_write};
@@ -61,6 +61,8 @@ impl From<ExitStatus> for ExitCode {
 pub struct Program<P> {
     /// What its memory comes from.
     pub alloc: Global,
+    /// How large a scenario may be.
+    pub limits: Limits,
     /// Makes the text.
     pub printer: P,
 }
@@ -73,7 +75,8 @@ impl<P: Printer> Program<P> {
         R: Read,
         W: Write,
         E: Write,
-        ensures { EndsAs (P.text self.now.printer) P.in_parts false result (R.remaining input.old) (R.remaining input.new)
+        ensures { EndsAs self.now.limits (P.text self.now.printer) P.in_parts false result
+            (R.remaining input.old) (R.remaining input.new)
             (W.contents output.old) (W.contents output.new) (E.contents errors.old) (E.contents errors.new) }
     {
         match self.read(input, errors) {
@@ -91,7 +94,7 @@ impl<P: Printer> Program<P> {
         R: Read,
         W: Write,
         E: Write,
-        ensures { EndsWith (P.text self.now.printer) P.in_parts false (exit_status result)
+        ensures { EndsWith self.now.limits (P.text self.now.printer) P.in_parts false (exit_status result)
             (R.remaining input.old) (R.remaining input.new)
             (W.contents output.old) (W.contents output.new) (E.contents errors.old) (E.contents errors.new) }
     {
@@ -106,16 +109,17 @@ impl<P: Printer> Program<P> {
     where
         R: Read,
         E: Write,
-        ensures found { IfOk result (λ plan. IsScenario (R.remaining input.old) plan) }
+        ensures found { IfOk result (λ plan. IsScenario self.now.limits (R.remaining input.old) plan) }
         ensures at_end { OnOk result (IsAtEnd (R.remaining input.new)) }
         ensures in_range { IfOk result (λ plan. IsInRange plan) }
         ensures silent { OnOk result (E.contents errors.new ≡ E.contents errors.old) }
         ensures refused { IfErr result (λ status. (needs : Bool) (output : Option (List ℕ))
-            → EndsAs (P.text self.now.printer) P.in_parts needs status (R.remaining input.old) (R.remaining input.new)
+            → EndsAs self.now.limits (P.text self.now.printer) P.in_parts needs status
+            (R.remaining input.old) (R.remaining input.new)
             output output (E.contents errors.old) (E.contents errors.new)) }
     {
-        let reading = read_input(self.alloc, input);
-        plan_after(self.alloc, reading, errors)
+        let reading = read_input(self.alloc, self.limits, input);
+        plan_after(self.alloc, self.limits, reading, errors)
     }
 
     /// Writes a text about the report of a run of this plan, which is in range, to the output. Where the run left no report,
@@ -135,8 +139,8 @@ impl<P: Printer> Program<P> {
         ensures fault { IfErr ran (λ fault. (result ≡ ExitStatus.RunRefused)
             × TellsFault plan.now fault (E.contents errors.old) (E.contents errors.new)) }
         ensures ends { (needs : Bool) → IfErr ran (MayMeet needs)
-            → (input input' : Option (List ℕ)) → IsScenario input plan.now → IsAtEnd input'
-            → EndsAs (P.text self.now.printer) P.in_parts needs result input input'
+            → (input input' : Option (List ℕ)) → IsScenario self.now.limits input plan.now → IsAtEnd input'
+            → EndsAs self.now.limits (P.text self.now.printer) P.in_parts needs result input input'
             (W.contents output.old) (W.contents output.new) (E.contents errors.old) (E.contents errors.new) }
     {
         match ran {
@@ -165,8 +169,8 @@ impl<P: Printer> Program<P> {
         ensures ends { (needs : Bool) (report : ReportValue) → IsReport plan.now report
             → (output output' : Option (List ℕ))
             → Prints P.in_parts (P.text self.now.printer plan.now report) output output' printed
-            → (input input' : Option (List ℕ)) → IsScenario input plan.now → IsAtEnd input'
-            → EndsAs (P.text self.now.printer) P.in_parts needs result input input' output output'
+            → (input input' : Option (List ℕ)) → IsScenario self.now.limits input plan.now → IsAtEnd input'
+            → EndsAs self.now.limits (P.text self.now.printer) P.in_parts needs result input input' output output'
             (E.contents errors.old) (E.contents errors.new) }
     {
         match printed {
@@ -181,8 +185,8 @@ impl<P: Printer> Program<P> {
         ensures ends { (needs : Bool) (report : ReportValue) → IsReport plan.now report
             → (output output' : Option (List ℕ))
             → StopsPrinting P.in_parts (P.text self.now.printer plan.now report) output output' fault
-            → (input input' : Option (List ℕ)) → IsScenario input plan.now
-            → EndsAs (P.text self.now.printer) P.in_parts needs result input input' output output'
+            → (input input' : Option (List ℕ)) → IsScenario self.now.limits input plan.now
+            → EndsAs self.now.limits (P.text self.now.printer) P.in_parts needs result input input' output output'
             (E.contents errors.old) (E.contents errors.new) }
     {
         match fault {

@@ -1,12 +1,12 @@
 //! What results from the reading of an input: a plan to run, or how the program ends.
 ghost use Rattle.std.specs.Prelude.{◌≡◌, ◌≤◌, Err, IfOk, MatchResult, Ok, length};
-ghost use Rattle.gs_streams.specs.Streams.{longest_input};
+ghost use Rattle.gs_plan.specs.Limits.{longest_input};
 ghost use Rattle.gs_program.specs.Program.{TellsRefusal};
 ghost use Rattle.gs_program.specs.Endings.{EndsUnread, GoesOn, GoesOnWith};
 
 use crate::program::ExitStatus;
 use crate::telling::tell_refusal;
-use gs_plan::Plan;
+use gs_plan::{Limits, Plan};
 use gs_scenario::ScenarioFault;
 use gs_streams::{ReadFault, input_too_long, plan_from, try_to_write};
 use std::alloc::Global;
@@ -18,17 +18,18 @@ use std::io::Write;
 /// How the program ends in that case.
 pub fn plan_after<E: Write>(
     alloc: Global,
+    limits: Limits,
     reading: Result<Vec<u8>, ReadFault>,
     errors: &mut E,
 ) -> Result<Plan, ExitStatus>
-    requires short { IfOk reading (λ text. length text.items ≤ longest_input) }
+    requires short { IfOk reading (λ text. length text.items ≤ longest_input limits) }
     ensures { MatchResult reading
-        (λ text. GoesOnWith text.items result (E.contents errors.old) (E.contents errors.new))
-        (λ fault. EndsUnread fault result (E.contents errors.old) (E.contents errors.new)) }
+        (λ text. GoesOnWith limits text.items result (E.contents errors.old) (E.contents errors.new))
+        (λ fault. EndsUnread limits fault result (E.contents errors.old) (E.contents errors.new)) }
 {
     match reading {
-        Ok(text) => go_on(alloc, plan_from(alloc, &text), errors),
-        Err(fault) => end_unread(alloc, fault, errors),
+        Ok(text) => go_on(alloc, plan_from(alloc, limits, &text), errors),
+        Err(fault) => end_unread(alloc, limits, fault, errors),
     }
 }
 
@@ -48,15 +49,20 @@ fn go_on<E: Write>(
 }
 
 /// Says why an input was not read to its end.
-fn end_unread<E: Write>(alloc: Global, fault: ReadFault, errors: &mut E) -> Result<Plan, ExitStatus>
-    ensures { EndsUnread fault result (E.contents errors.old) (E.contents errors.new) }
+fn end_unread<E: Write>(
+    alloc: Global,
+    limits: Limits,
+    fault: ReadFault,
+    errors: &mut E,
+) -> Result<Plan, ExitStatus>
+    ensures { EndsUnread limits fault result (E.contents errors.old) (E.contents errors.new) }
 {
     match fault {
         ReadFault::Failed => {
             try_to_write(errors, "input failed\n");
             Err(ExitStatus::InputFailed)
         }
-        ReadFault::TooLong => refuse(alloc, &input_too_long(alloc), errors),
+        ReadFault::TooLong => refuse(alloc, &input_too_long(alloc, limits), errors),
         ReadFault::NoMemory => refuse(alloc, &ScenarioFault::NoMemory, errors),
     }
 }

@@ -5,7 +5,10 @@ use Rattle.toml.specs.Data.{Members}
 use Rattle.toml.specs.Parse.{parse_document}
 use Rattle.gs_base.specs.declared.names.Topic.{Topic}
 use Rattle.gs_params.specs.Params.{checked, default_timing}
-use Rattle.gs_plan.specs.Plans.{IsInRange, has_topic, highest_capacity, longest_round, most_peers, most_planned_topics, most_rounds, most_workers, topic_of}
+use Rattle.gs_plan.specs.Plans.{IsInRange, IsWithin, has_topic, highest_capacity, longest_round, most_planned_topics, most_rounds, most_workers, topic_of}
+use Rattle.gs_plan.specs.Limits.{most_peers}
+use Rattle.gs_plan.specs.declared.limits.Limits.{Limits}
+use Rattle.gs_plan.specs.declared.limits.Limits.TheVariants.{Standard, Large}
 use Rattle.gs_params.specs.declared.params.Params.{Params}
 use Rattle.gs_params.specs.declared.params.Timing.{Timing}
 use Rattle.gs_params.specs.declared.topic_params.TopicParams.{TopicParams}
@@ -82,14 +85,14 @@ params_are shared topics = checked_are (with_topics shared topics) (checked (wit
 
 -- ---- the top table
 
-record TopIsInRange (top : Top) : Type 0 where
+record TopIsInRange (limits : Limits) (top : Top) : Type 0 where
   round_ms : (1 ≤ top.round_ms) × (top.round_ms ≤ longest_round)
   rounds : (1 ≤ top.rounds) × (top.rounds ≤ most_rounds)
   workers : (1 ≤ top.workers) × (top.workers ≤ most_workers)
   capacity : (1 ≤ top.capacity) × (top.capacity ≤ highest_capacity)
   seed : top.seed < 2 ^ 63
   topics : (1 ≤ item_count top.topics) × (item_count top.topics ≤ most_planned_topics)
-  peers : (1 ≤ item_count top.peers) × (item_count top.peers ≤ most_peers)
+  peers : (1 ≤ item_count top.peers) × (item_count top.peers ≤ most_peers limits)
 
 number_at : (name : List ℕ) (low high : ℕ) (section : Section) → IfOk (read_key section (required name (whole_number low high))) (λ n. (low ≤ n) × (n ≤ high))
 number_at name low high section = at_required (λ n. (low ≤ n) × (n ≤ high)) name (whole_number low high) section (number_is low high)
@@ -97,8 +100,8 @@ number_at name low high section = at_required (λ n. (low ≤ n) × (n ≤ high)
 list_at : (name : List ℕ) (low high : ℕ) (section : Section) → IfOk (read_key section (required name (list_of low high))) (λ ds. (low ≤ item_count ds) × (item_count ds ≤ high))
 list_at name low high section = at_required (λ ds. (low ≤ item_count ds) × (item_count ds ≤ high)) name (list_of low high) section (list_is low high)
 
-top_from : (top : Top) → (1 ≤ top.round_ms) × (top.round_ms ≤ longest_round) → (1 ≤ top.rounds) × (top.rounds ≤ most_rounds) → (1 ≤ top.workers) × (top.workers ≤ most_workers) → (1 ≤ top.capacity) × (top.capacity ≤ highest_capacity) → (0 ≤ top.seed) × (top.seed ≤ 2 ^ 63 - 1) → (1 ≤ item_count top.topics) × (item_count top.topics ≤ most_planned_topics) → (1 ≤ item_count top.peers) × (item_count top.peers ≤ most_peers) → TopIsInRange top
-top_from top round_ms rounds workers capacity seed topics peers = record {
+top_from : (limits : Limits) (top : Top) → (1 ≤ top.round_ms) × (top.round_ms ≤ longest_round) → (1 ≤ top.rounds) × (top.rounds ≤ most_rounds) → (1 ≤ top.workers) × (top.workers ≤ most_workers) → (1 ≤ top.capacity) × (top.capacity ≤ highest_capacity) → (0 ≤ top.seed) × (top.seed ≤ 2 ^ 63 - 1) → (1 ≤ item_count top.topics) × (item_count top.topics ≤ most_planned_topics) → (1 ≤ item_count top.peers) × (item_count top.peers ≤ most_peers limits) → TopIsInRange limits top
+top_from limits top round_ms rounds workers capacity seed topics peers = record {
   round_ms = round_ms;
   rounds = rounds;
   workers = workers;
@@ -108,10 +111,10 @@ top_from top round_ms rounds workers capacity seed topics peers = record {
   peers = peers;
 }
 
-top_is : (section : Section) → IfOk (top_in section) TopIsInRange
+top_is : (limits : Limits) (section : Section) → IfOk (top_in limits section) (TopIsInRange limits)
 unfolding top_in
-top_is section =
-    let P = TopIsInRange in
+top_is limits section =
+    let P = TopIsInRange limits in
     past P (only kinds.Top top_keys section) _ (λ none.
     next (λ n. (1 ≤ n) × (n ≤ longest_round)) P (read_key section round_ms_key) _ (number_at round_ms_key.name 1 longest_round section) (λ round_ms is_time.
     next (λ n. (1 ≤ n) × (n ≤ most_rounds)) P (read_key section rounds_key) _ (number_at rounds_key.name 1 most_rounds section) (λ rounds are_rounds.
@@ -120,17 +123,17 @@ top_is section =
     next (λ n. (0 ≤ n) × (n ≤ 2 ^ 63 - 1)) P (read_key section seed_key) _ (number_at seed_key.name 0 (2 ^ 63 - 1) section) (λ seed is_seed.
     past P (read_key section params_key) _ (λ params.
     next (λ ds. (1 ≤ item_count ds) × (item_count ds ≤ most_planned_topics)) P (read_key section topics_key) _ (list_at topics_key.name 1 most_planned_topics section) (λ topics are_topics.
-    next (λ ds. (1 ≤ item_count ds) × (item_count ds ≤ most_peers)) P (read_key section peers_key) _ (list_at peers_key.name 1 most_peers section) (λ peers are_peers.
+    next (λ ds. (1 ≤ item_count ds) × (item_count ds ≤ most_peers limits)) P (read_key section (peers_key limits)) _ (list_at (peers_key limits).name 1 (most_peers limits) section) (λ peers are_peers.
     past P (read_key section dials_key) _ (λ dials.
     past P (read_key section apps_key) _ (λ apps.
     past P (read_key section explicit_key) _ (λ explicit.
     past P (read_key section script_key) _ (λ script.
-    top_from (record { round_ms = round_ms; rounds = rounds; workers = workers; capacity = capacity; seed = seed; params = params; topics = topics; peers = peers; dials = dials; apps = apps; explicit = explicit; script = script }) is_time are_rounds are_workers is_capacity is_seed are_topics are_peers)))))))))))))
+    top_from limits (record { round_ms = round_ms; rounds = rounds; workers = workers; capacity = capacity; seed = seed; params = params; topics = topics; peers = peers; dials = dials; apps = apps; explicit = explicit; script = script }) is_time are_rounds are_workers is_capacity is_seed are_topics are_peers)))))))))))))
 
 -- ---- the plan
 
-module _ (top : Top) (shared : Shared) (topics : List (Topic × TopicParams)) (peers : List PlannedPeer) (dials : List Dial) (apps : List App) (explicit : List Explicit) (script : List Line) (params : Params) where
-  all_in_range : TopIsInRange top → TakeRounds top.round_ms shared.timing → TopicsAre (item_count top.topics) topics → PeersAre (item_count top.peers) peers → DialsAre peers dials → AppsAre peers dials apps → ExplicitAre peers dials explicit → LinesAre topics peers dials top.rounds script → AreChecked (with_topics shared topics) params → IsInRange (record { round_ms = top.round_ms; rounds = top.rounds; workers = top.workers; capacity = top.capacity; seed = top.seed; params = params; peers = peers; dials = dials; apps = apps; explicit = explicit; script = script })
+module _ (limits : Limits) (top : Top) (shared : Shared) (topics : List (Topic × TopicParams)) (peers : List PlannedPeer) (dials : List Dial) (apps : List App) (explicit : List Explicit) (script : List Line) (params : Params) where
+  all_in_range : TopIsInRange limits top → TakeRounds top.round_ms shared.timing → TopicsAre (item_count top.topics) topics → PeersAre (item_count top.peers) peers → DialsAre peers dials → AppsAre peers dials apps → ExplicitAre peers dials explicit → LinesAre topics peers dials top.rounds script → AreChecked (with_topics shared topics) params → IsWithin limits (record { round_ms = top.round_ms; rounds = top.rounds; workers = top.workers; capacity = top.capacity; seed = top.seed; params = params; peers = peers; dials = dials; apps = apps; explicit = explicit; script = script })
   all_in_range t s m n d a e l c = record {
     some_rounds = t.rounds.0;
     rounds = t.rounds.1;
@@ -168,11 +171,11 @@ module _ (top : Top) (shared : Shared) (topics : List (Topic × TopicParams)) (p
     lines_raw = l.raw;
   }
 
-plan_is : (all : Members) → IfOk (plan_in all) IsInRange
+plan_is : (limits : Limits) (all : Members) → IfOk (plan_in limits all) (IsWithin limits)
 unfolding plan_in
-plan_is all =
-    let P = IsInRange in
-    next TopIsInRange P (top_in (record { path = []; members = all })) _ (top_is (record { path = []; members = all })) (λ top t.
+plan_is limits all =
+    let P = IsWithin limits in
+    next (TopIsInRange limits) P (top_in limits (record { path = []; members = all })) _ (top_is limits (record { path = []; members = all })) (λ top t.
     next (λ shared. TakeRounds top.round_ms shared.timing) P (shared_in top.round_ms (section_at params_key.name top.params)) _ (shared_are top.round_ms (section_at params_key.name top.params)) (λ shared s.
     next (TopicsAre (item_count top.topics)) P (read_each topic_in [] top.topics) _ (topics_are top.topics) (λ topics m.
     next (PeersAre (item_count top.peers)) P (read_each peer_in [] top.peers) _ (peers_are top.peers) (λ peers n.
@@ -181,16 +184,64 @@ plan_is all =
     next (ExplicitAre peers dials) P (read_each (agreement_in peers dials) [] top.explicit) _ (explicit_are peers dials top.explicit) (λ explicit e.
     next (LinesAre topics peers dials top.rounds) P (read_each (line_in topics peers dials top.rounds) [] top.script) _ (lines_are topics peers dials top.rounds top.script) (λ script l.
     next (AreChecked (with_topics shared topics)) P (params_of shared topics) _ (params_are shared topics) (λ params c.
-    all_in_range top shared topics peers dials apps explicit script params t s m n d a e l c)))))))))
+    all_in_range limits top shared topics peers dials apps explicit script params t s m n d a e l c)))))))))
 
-document_is : (found : Option Members) → IfOk (plan_of_document found) IsInRange
-document_is None = tt
-document_is (Some all) = plan_is all
+document_is : (limits : Limits) (found : Option Members) → IfOk (plan_of_document limits found) (IsWithin limits)
+document_is limits None = tt
+document_is limits (Some all) = plan_is limits all
 
-given_is : (said given : Result Plan ScenarioFault) → GivesSame given said → IfOk said IsInRange → IfOk given IsInRange
-given_is said (Ok plan) e h = rw e at h
-given_is said (Err fault) e h = tt
+given_is : (P : Plan → Type 0) (said given : Result Plan ScenarioFault) → GivesSame given said → IfOk said P → IfOk given P
+given_is P said (Ok plan) e h = rw e at h
+given_is P said (Err fault) e h = tt
 
--- what is given as the plan of a text is in range
-pub plan_in_range : (text : List ℕ) (given : Result Plan ScenarioFault) → GivesSame given (plan_of text) → IfOk given IsInRange
-plan_in_range text given e = given_is (plan_of text) given e (document_is (parse_document text))
+-- what is given as the plan of a text is within the limits
+pub plan_within : (limits : Limits) (text : List ℕ) (given : Result Plan ScenarioFault) → GivesSame given (plan_of limits text) → IfOk given (IsWithin limits)
+plan_within limits text given e = given_is (IsWithin limits) (plan_of limits text) given e (document_is limits (parse_document text))
+
+-- what is within any limits is within the large ones
+is_in_range : (limits : Limits) (plan : Plan) → IsWithin limits plan → IsInRange plan
+is_in_range Large plan within = within
+is_in_range Standard plan within = record {
+  some_rounds = within.some_rounds;
+  rounds = within.rounds;
+  some_time = within.some_time;
+  round_ms = within.round_ms;
+  some_workers = within.some_workers;
+  workers = within.workers;
+  some_capacity = within.some_capacity;
+  capacity = within.capacity;
+  seed = within.seed;
+  some_peers = within.some_peers;
+  peers = omega (arith, within.peers);
+  some_topics = within.some_topics;
+  topics = within.topics;
+  names_differ = within.names_differ;
+  topics_differ = within.topics_differ;
+  params = within.params;
+  heartbeat = within.heartbeat;
+  decay = within.decay;
+  dials_from = within.dials_from;
+  dials_to = within.dials_to;
+  dials_to_others = within.dials_to_others;
+  dials_differ = within.dials_differ;
+  apps_of = within.apps_of;
+  apps_about = within.apps_about;
+  app_values = within.app_values;
+  apps_differ = within.apps_differ;
+  explicit_of = within.explicit_of;
+  explicit_about = within.explicit_about;
+  explicit_differ = within.explicit_differ;
+  lines_of = within.lines_of;
+  lines_at = within.lines_at;
+  lines_on = within.lines_on;
+  lines_to = within.lines_to;
+  lines_raw = within.lines_raw;
+}
+
+all_are_in_range : (limits : Limits) (given : Result Plan ScenarioFault) → IfOk given (IsWithin limits) → IfOk given IsInRange
+all_are_in_range limits (Ok plan) within = is_in_range limits plan within
+all_are_in_range limits (Err fault) within = tt
+
+-- and so it is in range
+pub plan_in_range : (limits : Limits) (text : List ℕ) (given : Result Plan ScenarioFault) → GivesSame given (plan_of limits text) → IfOk given IsInRange
+plan_in_range limits text given e = all_are_in_range limits given (plan_within limits text given e)

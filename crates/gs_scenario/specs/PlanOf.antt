@@ -21,7 +21,10 @@ use Rattle.gs_plan.specs.declared.plan.Explicit.{Explicit}
 use Rattle.gs_plan.specs.declared.plan.Line.{Line}
 use Rattle.gs_plan.specs.declared.plan.Act.{Act}
 use Rattle.gs_plan.specs.declared.plan.Act.TheVariants.{Subscribe, Unsubscribe, Publish, Raw, HangUp}
-use Rattle.gs_plan.specs.Plans.{are_joined, are_of_the_same, are_one_pair, join_the_same, longest_round, most_rounds, most_workers, highest_capacity, most_peers, most_planned_topics, highest_app_score, longest_raw}
+use Rattle.gs_plan.specs.Plans.{are_joined, are_of_the_same, are_one_pair, join_the_same, longest_round, most_rounds, most_workers, highest_capacity, most_planned_topics, highest_app_score, longest_raw}
+use Rattle.gs_plan.specs.Limits.{most_peers}
+use Rattle.gs_plan.specs.declared.limits.Limits.{Limits}
+use Rattle.gs_plan.specs.declared.limits.Limits.TheVariants.{Standard}
 use Rattle.gs_scenario.specs.declared.scenario.script.Verb.{Verb}
 use Rattle.gs_scenario.specs.declared.scenario.script.Verb.TheVariants as verbs
 use Rattle.gs_scenario.specs.Keys.{Key, Kind, Section, ◌>>=◌, refuse_if, required, optional, read_key, only, read_each}
@@ -52,8 +55,8 @@ params_key = optional (codes "params") any_table no_members
 abbrev pub topics_key : Key Items
 topics_key = required (codes "topic") (list_of 1 most_planned_topics)
 
-abbrev pub peers_key : Key Items
-peers_key = required (codes "peer") (list_of 1 most_peers)
+abbrev pub peers_key : Limits → Key Items
+peers_key limits = required (codes "peer") (list_of 1 (most_peers limits))
 
 abbrev pub dials_key : Key Items
 dials_key = optional (codes "dial") any_list no_items
@@ -76,7 +79,7 @@ top_keys =
     ∷ seed_key.name
     ∷ params_key.name
     ∷ topics_key.name
-    ∷ peers_key.name
+    ∷ (peers_key Standard).name
     ∷ dials_key.name
     ∷ apps_key.name
     ∷ explicit_key.name
@@ -98,8 +101,8 @@ pub record Top : Type 0 where
   pub explicit : Items
   pub script : Items
 
-unfoldable pub top_in : Section → Result Top ScenarioFault
-top_in top = do
+unfoldable pub top_in : Limits → Section → Result Top ScenarioFault
+top_in limits top = do
   _ ← only kinds.Top top_keys top
   round_ms ← read_key top round_ms_key
   rounds ← read_key top rounds_key
@@ -108,7 +111,7 @@ top_in top = do
   seed ← read_key top seed_key
   params ← read_key top params_key
   topics ← read_key top topics_key
-  peers ← read_key top peers_key
+  peers ← read_key top (peers_key limits)
   dials ← read_key top dials_key
   apps ← read_key top apps_key
   explicit ← read_key top explicit_key
@@ -361,9 +364,9 @@ line_in topics peers dials rounds earlier d = do
 -- ---- the plan
 
 -- the top table is read, then the tables and lists in it in the order of their keys; the parameters are checked last
-unfoldable pub plan_in : Members → Result Plan ScenarioFault
-plan_in members = do
-  top ← top_in (record { path = []; members = members })
+unfoldable pub plan_in : Limits → Members → Result Plan ScenarioFault
+plan_in limits members = do
+  top ← top_in limits (record { path = []; members = members })
   shared ← shared_in top.round_ms (section_at params_key.name top.params)
   topics ← read_each topic_in [] top.topics
   peers ← read_each peer_in [] top.peers
@@ -386,10 +389,10 @@ plan_in members = do
     script = script;
   })
 
-abbrev pub plan_of_document : Option Members → Result Plan ScenarioFault
-plan_of_document None = Err Toml
-plan_of_document (Some members) = plan_in members
+abbrev pub plan_of_document : Limits → Option Members → Result Plan ScenarioFault
+plan_of_document limits None = Err Toml
+plan_of_document limits (Some members) = plan_in limits members
 
--- the plan that a text describes, or its first refusal
-abbrev pub plan_of : List ℕ → Result Plan ScenarioFault
-plan_of text = plan_of_document (parse_document text)
+-- the plan that a text describes within these limits, or its first refusal
+abbrev pub plan_of : Limits → List ℕ → Result Plan ScenarioFault
+plan_of limits text = plan_of_document limits (parse_document text)

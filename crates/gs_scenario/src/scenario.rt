@@ -2,7 +2,7 @@ ghost use Rattle.std.specs.Prelude.{◌≡◌, IfOk};
 ghost use Rattle.toml.specs.View.{table_view};
 ghost use Rattle.gs_scenario.specs.Refusal.{GivesSame};
 ghost use Rattle.gs_scenario.specs.PlanOf.{plan_of, plan_in};
-ghost use Rattle.gs_plan.specs.Plans.{IsInRange};
+ghost use Rattle.gs_plan.specs.Plans.{IsInRange, IsWithin};
 
 mod apps;
 mod dials;
@@ -31,12 +31,12 @@ use crate::scenario::script::{Known, lines_in};
 use crate::scenario::section::Section;
 use crate::scenario::top::Top;
 use crate::scenario::topics::topics_in;
-use gs_plan::Plan;
+use gs_plan::{Limits, Plan};
 use std::alloc::Global;
 pub use tables::TableKind;
 use toml::Table;
 
-/// Returns the plan that a scenario describes.
+/// Returns the plan that a scenario describes within these limits.
 ///
 /// # Errors
 /// The first refusal. A text that is no TOML is refused first. Then the top table is read, then the table of parameters,
@@ -44,12 +44,13 @@ use toml::Table;
 /// fault of `what` comes before that. Then the keys are read in a fixed order. The parameters are checked last. `NoMemory`
 /// may come at any step, and so instead of any refusal. Only tests show that a scenario which is to be refused isn't
 /// refused as out of memory.
-pub fn read_plan(alloc: Global, text: &str) -> Result<Plan, ScenarioFault>
-    ensures plan { GivesSame result (plan_of text.now) }
+pub fn read_plan(alloc: Global, limits: Limits, text: &str) -> Result<Plan, ScenarioFault>
+    ensures plan { GivesSame result (plan_of limits text.now) }
+    ensures within { IfOk result (λ plan. IsWithin limits plan) }
     ensures in_range { IfOk result (λ plan. IsInRange plan) }
 {
     match toml::table_from_str(alloc, text) {
-        Ok(table) => plan_in(alloc, &table),
+        Ok(table) => plan_in(alloc, limits, &table),
         Err(fault) => {
             if fault.is_memory() {
                 Err(ScenarioFault::NoMemory)
@@ -61,11 +62,11 @@ pub fn read_plan(alloc: Global, text: &str) -> Result<Plan, ScenarioFault>
 }
 
 #[tactic(auto, unfolding(crate::specs::PlanOf::plan_in))]
-fn plan_in(alloc: Global, table: &Table) -> Result<Plan, ScenarioFault>
-    ensures { GivesSame result (plan_in (table_view table.now)) }
+fn plan_in(alloc: Global, limits: Limits, table: &Table) -> Result<Plan, ScenarioFault>
+    ensures { GivesSame result (plan_in limits (table_view table.now)) }
 {
     let path = Path::Top;
-    let top = Top::read(Section { alloc, path, table })?;
+    let top = Top::read(limits, Section { alloc, path, table })?;
     let shared = shared_of(alloc, top.params, top.round_ms)?;
     let topics = topics_in(alloc, top.topics)?;
     let peers = peers_in(alloc, top.peers)?;

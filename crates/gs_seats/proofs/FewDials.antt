@@ -13,11 +13,11 @@ use Rattle.gs_plan.specs.declared.plan.Plan.{Plan}
 use Rattle.gs_plan.specs.Plans.{IsInRange, join_the_same}
 
 abbrev code : Dial → ℕ
-code dial = dial.from.0 * 64 + dial.to.0
+code dial = dial.from.0 * 4096 + dial.to.0
 
--- it is a dial of peers below 64
+-- it is a dial of peers below 4096
 abbrev IsLow : Dial → Type 0
-IsLow dial = (dial.from.0 < 64) × (dial.to.0 < 64)
+IsLow dial = (dial.from.0 < 4096) × (dial.to.0 < 4096)
 
 codes_apart : (x y : Dial) → IsLow x → IsLow y → join_the_same y x ≡ false → eqb (code x) (code y) ≡ false
 codes_apart x y low_x low_y differ = ne_eqb (code x) (code y) (λ e.
@@ -37,17 +37,17 @@ codes_distinct (x ∷ dials) lows differ = IsDistinct-cons eqb (code x) (map cod
     (codes_after x dials lows.0 lows.1 (recursion_from_All (λ y. join_the_same y x ≡ false) dials (λ k d within. differ 0 (suc k) d (omega arith) (omega arith))))
     (codes_distinct dials lows.1 (λ i j d a b. differ (suc i) (suc j) d (omega arith) (omega arith)))
 
-codes_low : (dials : List Dial) → AllByRecursion IsLow dials → (n : ℕ) → list_any (eqb n) (map code dials) ≡ true → n < 4096
+codes_low : (dials : List Dial) → AllByRecursion IsLow dials → (n : ℕ) → list_any (eqb n) (map code dials) ≡ true → n < 16777216
 codes_low [] lows n there = let e : false ≡ true = there in cc
 codes_low (x ∷ dials) lows n there = ⊎_elim
     (λ (y : (eqb n (code x) ≡ true) × (n ≡ code x)). let is = y.1 in let low = lows.0 in omega (arith, is, low))
     (λ (m : (eqb n (code x) ≡ false) × (n ≢ code x)). let further = rw m.0 at there in codes_low dials lows.1 n further) (eqb_tells n (code x))
 
--- among 64 peers there are at most 64 * 64 dials
-few_dials : (plan : Plan) → IsInRange plan → length plan.dials ≤ 4096
+-- among 4096 peers there are at most 4096 * 4096 dials
+few_dials : (plan : Plan) → IsInRange plan → length plan.dials ≤ 16777216
 few_dials plan range =
-    let lows : AllByRecursion IsLow plan.dials = recursion_from_All IsLow plan.dials (λ k d within. let a = range.dials_from k d within in let b = range.dials_to k d within in let most = range.peers in (omega (arith, a, most), omega (arith, b, most))) in
-    let few = length-le_from_distinct_below (map code plan.dials) 4096 (codes_distinct plan.dials lows range.dials_differ) (codes_low plan.dials lows) in
+    let lows : AllByRecursion IsLow plan.dials = recursion_from_All IsLow plan.dials (λ k d within. let a = range.dials_from k d within in let b = range.dials_to k d within in let most : length plan.peers ≤ 4096 = range.peers in (omega (arith, a, most), omega (arith, b, most))) in
+    let few = length-le_from_distinct_below (map code plan.dials) 16777216 (codes_distinct plan.dials lows range.dials_differ) (codes_low plan.dials lows) in
     let same : length (map code plan.dials) ≡ length plan.dials = length-map plan.dials code in
     omega (arith, few, same)
 

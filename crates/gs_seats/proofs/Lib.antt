@@ -6,6 +6,7 @@ pub mod FewDials
 pub mod Joined
 pub mod NeighbourLists
 pub mod OwnLines
+pub mod OwnParts
 pub mod SameWords
 pub mod Truths
 pub mod Within

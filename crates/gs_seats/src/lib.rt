@@ -7,6 +7,7 @@ mod followers;
 mod lines;
 mod lists_by_peer;
 mod neighbours;
+mod own;
 mod routers;
 
 pub use fault::NetFault;
@@ -14,4 +15,5 @@ pub use followers::{follower_of, traces_of_a_report_are_in_order};
 pub use lines::lines_by_peer;
 pub use lists_by_peer::{empty_lists, put_last, take_last, take_list};
 pub use neighbours::neighbours_of;
+pub use own::{Concerning, own_of};
 pub use routers::{first_words, router_of};

@@ -1,7 +1,9 @@
 ghost use Rattle.std.specs.Prelude.{◌≡◌, ◌≤◌, ◌<◌, IfOk, length};
 ghost use Rattle.std.specs.List.{list_any};
-ghost use Rattle.gs_seats.specs.Rounds.{address_of, app_of, is_about, is_agreed, is_dial, neighbour_in, neighbours_in};
+ghost use Rattle.gs_seats.specs.Rounds.{address_of, is_about, is_agreed, is_dial, neighbours_in};
+ghost use Rattle.gs_seats.specs.Own.{neighbour_by, score_in};
 
+use crate::own::own_of;
 use bytes::Bytes;
 use gs_base::{Neighbour, PeerNo};
 use gs_plan::{App, Dial, Explicit, MOST_PEERS, Plan, are_joined};
@@ -15,29 +17,45 @@ pub fn neighbours_of(alloc: Global, plan: &Plan, peer: PeerNo) -> Result<Vec<Nei
     requires { length plan.now.peers ≤ MOST_PEERS }
     ensures { IfOk result (λ found. found.items ≡ neighbours_in plan.now peer) }
 {
+    let own = Own {
+        dials: own_of(alloc, plan.dials.as_slice(), peer)?,
+        apps: own_of(alloc, plan.apps.as_slice(), peer)?,
+        explicit: own_of(alloc, plan.explicit.as_slice(), peer)?,
+    };
     let count = plan.peers.len() as u16;
     let mut found = Vec::new(alloc);
     for number in 0..count {
         let other = PeerNo(number);
-        if are_joined(plan.dials.as_slice(), peer, other) {
-            found.push(neighbour_of(alloc, plan, peer, other)?)?;
+        if are_joined(own.dials.as_slice(), peer, other) {
+            found.push(neighbour_of(alloc, plan, &own, peer, other)?)?;
         }
     }
     Ok(found)
 }
 
+/// What in a plan concerns one peer, in the order of the plan.
+#[derive(Drop)]
+struct Own {
+    dials: Vec<Dial>,
+    /// The scores that the peer's application gives.
+    apps: Vec<App>,
+    explicit: Vec<Explicit>,
+}
+
 fn neighbour_of(
     alloc: Global,
     plan: &Plan,
+    own: &Own,
     peer: PeerNo,
     other: PeerNo,
 ) -> Result<Neighbour, AllocError>
-    ensures { IfOk result (λ neighbour. neighbour ≡ neighbour_in plan.now peer other) }
+    ensures { IfOk result (λ neighbour. neighbour ≡
+        neighbour_by own.now.dials.items own.now.apps.items own.now.explicit.items (address_of plan.now other) peer other) }
 {
     Ok(Neighbour {
-        outbound: dials(plan.dials.as_slice(), peer, other),
-        app: i128::from(app_of(plan, peer, other)),
-        explicit: agreed(plan.explicit.as_slice(), peer, other),
+        outbound: dials(own.dials.as_slice(), peer, other),
+        app: i128::from(app_of(own.apps.as_slice(), peer, other)),
+        explicit: agreed(own.explicit.as_slice(), peer, other),
         ..Neighbour::new(other, address_of(alloc, plan, other)?)
     })
 }
@@ -67,15 +85,10 @@ fn address_of(alloc: Global, plan: &Plan, peer: PeerNo) -> Result<Bytes, AllocEr
 }
 
 /// Returns the score that one peer's application gives the other, in millionths, and 0 where it gives none.
-fn app_of(plan: &Plan, peer: PeerNo, about: PeerNo) -> i64
-    ensures { result ≡ app_of plan.now peer about }
+fn app_of(apps: &[App], peer: PeerNo, about: PeerNo) -> i64
+    ensures { result ≡ score_in apps.now peer about }
 {
-    match plan
-        .apps
-        .as_slice()
-        .iter()
-        .find(|app| is_about(peer, about, app))
-    {
+    match apps.iter().find(|app| is_about(peer, about, app)) {
         Some(app) => app.value,
         None => 0,
     }

@@ -3,18 +3,19 @@
 
 ghost use Rattle.std.specs.Prelude.{◌≡◌, ◌≤◌, ◌<◌, length, IfOk, IfSome, IsErrOf, List, OnErr, OnOk, ℕ};
 ghost use Rattle.std.specs.Io.KnownBytes.{Appends, Consumes, IsAtEnd};
-ghost use Rattle.gs_streams.specs.Streams.{AppendsFront, longest_input};
+ghost use Rattle.gs_plan.specs.Limits.{longest_input};
+ghost use Rattle.gs_streams.specs.Streams.{AppendsFront};
 ghost use Rattle.gs_streams.specs.declared.ReadFault.TheVariants.{NoMemory};
 
+mod arguments;
 pub mod fakes;
 mod inputs;
 
+pub use arguments::limits_in;
+use gs_plan::Limits;
 pub use inputs::{input_too_long, plan_from};
 use std::alloc::{AllocError, Global};
 use std::io::{ErrorKind, Read, Write};
-
-/// The longest input, in bytes.
-pub const LONGEST_INPUT: usize = 8_388_608;
 
 /// How often an input is read before it counts as one that never ends.
 pub const MOST_READS: u32 = 10_000_000;
@@ -46,17 +47,21 @@ pub struct WriteFailed;
 /// Reads an input to its end, by at most `MOST_READS` reads. An interrupted read counts as one of them and is tried again.
 ///
 /// # Errors
-/// `TooLong` if there are more than `LONGEST_INPUT` bytes. `Failed` if a read failed or the reads ran out. `NoMemory` if memory
+/// `TooLong` if there are more bytes than the limits allow. `Failed` if a read failed or the reads ran out. `NoMemory` if memory
 /// runs out. After an error the reader stands after what was read.
-pub fn read_input<R: Read>(alloc: Global, input: &mut R) -> Result<Vec<u8>, ReadFault>
+pub fn read_input<R: Read>(
+    alloc: Global,
+    limits: Limits,
+    input: &mut R,
+) -> Result<Vec<u8>, ReadFault>
     ensures whole { IfOk result (λ text. IfSome (R.remaining input.old) (λ given. text.items ≡ given)) }
     ensures at_end { OnOk result (IsAtEnd (R.remaining input.new)) }
-    ensures short { IfOk result (λ text. length text.items ≤ longest_input) }
+    ensures short { IfOk result (λ text. length text.items ≤ longest_input limits) }
     ensures too_long { IsErrOf result ReadFault.TooLong
-        → IfSome (R.remaining input.old) (λ given. longest_input < length given) }
+        → IfSome (R.remaining input.old) (λ given. longest_input limits < length given) }
     ensures front { (front : List ℕ) × Consumes (R.remaining input.old) (R.remaining input.new) front }
 {
-    read_within(alloc, input, LONGEST_INPUT, MOST_READS)
+    read_within(alloc, input, limits.longest_input(), MOST_READS)
 }
 
 /// Reads an input of at most `longest` bytes to its end, by at most `most_reads` reads.

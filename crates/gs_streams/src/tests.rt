@@ -64,7 +64,7 @@ fn trickled(alloc: Global, left: usize) -> Result<usize, ReadFault> {
 
 fn reads_whole(alloc: Global, text: &[u8]) -> bool {
     let mut input = text;
-    match read_input(alloc, &mut input) {
+    match read_input(alloc, Limits::Standard, &mut input) {
         Ok(read) => read.as_slice() == text && input.is_empty(),
         Err(_) => false,
     }
@@ -139,7 +139,7 @@ fn an_input_is_read_so_often_at_most(rt: HostRuntime) {
 /// How many bytes are read from an input of this length.
 fn read_of(alloc: Global, length: usize) -> Result<usize, ReadFault> {
     let input = vec![in alloc; 7u8; length]?;
-    Ok(read_input(alloc, &mut input.as_slice())?.len())
+    Ok(read_input(alloc, Limits::Standard, &mut input.as_slice())?.len())
 }
 
 #[test]
@@ -148,7 +148,12 @@ fn the_longest_input_and_the_most_reads_are_these(rt: HostRuntime) {
     assert_eq!(rt; read_of(alloc, 8_388_608), Ok(8_388_608));
     assert_eq!(rt; read_of(alloc, 8_388_609), Err(ReadFault::TooLong));
     let mut stalled = Stalled { reads: 0 };
-    assert!(rt; matches!(read_input(alloc, &mut stalled), Err(ReadFault::Failed)));
+    assert!(rt;
+        matches!(
+            read_input(alloc, Limits::Standard, &mut stalled),
+            Err(ReadFault::Failed)
+        )
+    );
     assert_eq!(rt; stalled.reads, 10_000_000);
 }
 
@@ -162,7 +167,12 @@ fn interruptions_are_read_over_and_faults_are_not(rt: HostRuntime) {
         let mut input = Broken {
             rest: &[7; 4][..length],
         };
-        assert!(rt; matches!(read_input(alloc, &mut input), Err(ReadFault::Failed)));
+        assert!(rt;
+            matches!(
+                read_input(alloc, Limits::Standard, &mut input),
+                Err(ReadFault::Failed)
+            )
+        );
     }
 }
 

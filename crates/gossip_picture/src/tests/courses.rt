@@ -73,7 +73,8 @@ const LINE_BY_H: &[&str] = &[
 ",
     LINE_NAMES,
     "\
-<text class=\"head\" x=\"60\" y=\"590\">Each disc is a peer, by the lowest score that a neighbour among h* gives it at the end</text>
+<text class=\"head\" x=\"60\" y=\"590\">Each disc is a peer, by the lowest score that a neighbour among h* \
+    gives it at the end</text>
 ",
     LEGEND,
     "\
@@ -215,8 +216,10 @@ const CHAIN_DRAWN: &[&str] = &[
 <path class=\"grid\" d=\"M860 740V940\"/><text class=\"middle\" x=\"860\" y=\"958\">12</text>
 ",
     "\
-<path class=\"course all\" d=\"M60 940H126V913H193V886H260V859H326V831H393V804H460V786H526V777H593V768H660V759H726V750H793V740H860\"/>
-<path class=\"course few\" d=\"M60 940H126V922H193V904H260V886H326V868H393V850H460V831H526V813H593V795H660V777H726V759H793V740H860\"/>
+<path class=\"course all\" d=\"M60 940H126V913H193V886H260V859H326V831H393V804H460V786H526V777\
+    H593V768H660V759H726V750H793V740H860\"/>
+<path class=\"course few\" d=\"M60 940H126V922H193V904H260V886H326V868H393V850H460V831H526V813\
+    H593V795H660V777H726V759H793V740H860\"/>
 <path class=\"course few\" d=\"M60 940H126V904H193V868H260V831H326V795H393V759H460V740H860\"/>
 ",
     "</g>\n</svg>\n",

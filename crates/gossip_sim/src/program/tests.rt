@@ -1,5 +1,5 @@
 use super::*;
-use gs_streams::LONGEST_INPUT;
+use gs_plan::Limits;
 use gs_streams::fakes::{Broken, Narrow};
 use std::alloc::AllocError;
 use std::io;
@@ -53,7 +53,11 @@ pub trait Host: Threads + Wait + RandomSource + AllocGlobal + Sync + Send + Copy
 
 impl<T: Threads + Wait + RandomSource + AllocGlobal + Sync + Send + Copy> Host for T {}
 
-const WAYS: [Way; 2] = [Way::OverLinks, Way::WithoutLinks];
+const WAYS: [Way; 3] = [
+    Way::OverLinks,
+    Way::WithoutLinks(Limits::Standard),
+    Way::WithoutLinks(Limits::Large),
+];
 
 /// Whether a run on an input ends so, with this on the output and that on errors.
 fn ends<T: Host, R: Read>(
@@ -72,7 +76,13 @@ fn ends<T: Host, R: Read>(
 
 pub fn is_refused<T: Host>(rt: &T, input: &[u8], line: &str) -> bool {
     ends(rt, Way::OverLinks, &mut &input[..], 1, ("", line))
-        && ends(rt, Way::WithoutLinks, &mut &input[..], 1, ("", line))
+        && ends(
+            rt,
+            Way::WithoutLinks(Limits::Standard),
+            &mut &input[..],
+            1,
+            ("", line),
+        )
 }
 
 /// A writer that takes `step` bytes at a time and `room` in all.
@@ -170,7 +180,7 @@ fn an_input_that_is_no_text_is_refused(rt: HostRuntime) {
 
 #[test]
 fn a_long_input_is_refused_whatever_it_is(rt: HostRuntime) -> Result<(), AllocError> {
-    let mut input = vec![in rt.alloc(); 0xffu8; LONGEST_INPUT]?;
+    let mut input = vec![in rt.alloc(); 0xffu8; Limits::Standard.longest_input()]?;
     assert!(rt; is_refused(&rt, &input, "scenario refused: 26\n"));
     input.push(b'\n')?;
     assert!(rt; is_refused(&rt, &input, "scenario refused: 29 input\n"));
@@ -245,7 +255,7 @@ fn a_run_without_a_thread_is_refused_only_over_links(rt: HostRuntime) {
     assert!(rt;
         ends(
             &Unseeded(rt),
-            Way::WithoutLinks,
+            Way::WithoutLinks(Limits::Standard),
             &mut &text[..],
             0,
             (REPORT, "")
@@ -277,12 +287,21 @@ fn ends_for<T: Host>(
 
 #[test]
 fn arguments_say_how_peers_are_run(rt: HostRuntime) -> Result<(), AllocError> {
-    let usage = ("", "usage: gossip_sim [--direct]\n");
+    let usage = (
+        "",
+        "usage: gossip_sim [--direct [--large]]\n\
+         --large: up to 4096 peers; a run over links has up to 64\n",
+    );
     assert!(rt; ends_for(&rt, &[], 0, (REPORT, ""))?);
     assert!(rt; ends_for(&rt, &["--direct"], 0, (REPORT, ""))?);
     assert!(rt; ends_for(&rt, &["--links"], 64, usage)?);
     assert!(rt; ends_for(&rt, &[""], 64, usage)?);
     assert!(rt; ends_for(&rt, &["--direct", "--direct"], 64, usage)?);
+    assert!(rt; ends_for(&rt, &["--direct", "--large"], 0, (REPORT, ""))?);
+    assert!(rt; ends_for(&rt, &["--large", "--direct"], 0, (REPORT, ""))?);
+    assert!(rt; ends_for(&rt, &["--large"], 64, usage)?);
+    assert!(rt; ends_for(&rt, &["--large", "--large"], 64, usage)?);
+    assert!(rt; ends_for(&rt, &["--direct", "--large", "--large"], 64, usage)?);
     // (a thread is asked for only over links)
     assert!(rt; ends_for(&Unseeded(rt), &[], 2, ("", "run refused: 25\n"))?);
     assert!(rt; ends_for(&Unseeded(rt), &["--direct"], 0, (REPORT, ""))?);

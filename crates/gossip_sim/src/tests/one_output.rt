@@ -1,5 +1,6 @@
 //! Two runs of one scenario, which are proved to write the same bytes.
 ghost use Rattle.std.specs.Prelude.{◌≡◌, IfSome, List, Option, Some, ℕ, []};
+ghost use Rattle.gs_plan.specs.declared.limits.Limits.TheVariants.{Standard};
 ghost use Rattle.gs_program.specs.Program.{Reported};
 ghost use Rattle.gs_report.specs.Text.{report_text};
 
@@ -7,6 +8,7 @@ use crate::laws::two_runs_write_the_same;
 use crate::program::tests::Host;
 use crate::program::{run, run_direct};
 use gs_peer::NoGate;
+use gs_plan::Limits;
 use gs_program::ExitStatus;
 use std::alloc::Global;
 
@@ -32,7 +34,7 @@ const REPORT: &str = "delivered b 300 news 616263\n\
 /// What a run of a scenario over links writes, where it reports.
 pub(super) fn output_of<T: Host>(rt: &T, text: &str) -> Option<Vec<u8>>
     ensures { IfSome result (λ output. (rest : Option (List ℕ)) × (told : Option (List ℕ)) × (told' : Option (List ℕ))
-        × Reported report_text (Some text.now) rest (Some []) (Some output.items) told told') }
+        × Reported Standard report_text (Some text.now) rest (Some []) (Some output.items) told told') }
 {
     let mut output = Vec::new(rt.alloc());
     let mut errors = Vec::new(rt.alloc());
@@ -49,11 +51,17 @@ pub(super) fn output_of<T: Host>(rt: &T, text: &str) -> Option<Vec<u8>>
 /// What a run of a scenario without links writes, where it reports.
 fn direct_output_of(alloc: Global, text: &str) -> Option<Vec<u8>>
     ensures { IfSome result (λ output. (rest : Option (List ℕ)) × (told : Option (List ℕ)) × (told' : Option (List ℕ))
-        × Reported report_text (Some text.now) rest (Some []) (Some output.items) told told') }
+        × Reported Standard report_text (Some text.now) rest (Some []) (Some output.items) told told') }
 {
     let mut output = Vec::new(alloc);
     let mut errors = Vec::new(alloc);
-    match run_direct(alloc, &mut text.as_bytes(), &mut output, &mut errors) {
+    match run_direct(
+        alloc,
+        Limits::Standard,
+        &mut text.as_bytes(),
+        &mut output,
+        &mut errors,
+    ) {
         ExitStatus::Reported => Some(output),
         ExitStatus::ScenarioRefused
         | ExitStatus::RunRefused

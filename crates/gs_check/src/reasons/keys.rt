@@ -46,7 +46,7 @@ static REQUIRED: [Required; 22] = [
     (
         "",
         "peer",
-        "a list of 1 to 64 tables, each written under `[[peer]]`",
+        "a list of at least one table, each written under `[[peer]]`",
     ),
     ("topic", "name", "a name that no other topic has"),
     ("peer", "name", "a name that no other peer has"),
@@ -122,7 +122,8 @@ fn unknown_words(
     near: Option<&'static str>,
 ) -> Result<String, AllocError>
     ensures { is_plain_text place.now ≡ true
-        → IfOk result (λ text. string_bytes text ≡ unknown_words place.now kind (option_map (λ name. name.now) near.entry)) }
+        → IfOk result (λ text.
+        string_bytes text ≡ unknown_words place.now kind (option_map (λ name. name.now) near.entry)) }
 {
     let mut text = is_no_key(alloc, place)?;
     text.push_str(table_words(kind))?;
@@ -190,7 +191,8 @@ fn nearest(
     key: &str,
     known: &[&'static str],
 ) -> Result<Option<&'static str>, AllocError>
-    ensures { IfOk result (λ near. IsNearestOf key.now (map (λ name. name.now) known.now) (option_map (λ name. name.now) near)) }
+    ensures { IfOk result (λ near.
+        IsNearestOf key.now (map (λ name. name.now) known.now) (option_map (λ name. name.now) near)) }
 {
     if key.len() > LONGEST_NEAR {
         return Ok(None);

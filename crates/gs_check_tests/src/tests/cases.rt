@@ -219,7 +219,7 @@ pub static MISSING: [Case; 22] = [
         "no peers",
         "[[peer]]\nname = \"a\"\n\n[[peer]]\nname = \"b\"\n",
         "",
-        "28 peer\n`peer` is missing: it must be a list of 1 to 64 tables, \
+        "28 peer\n`peer` is missing: it must be a list of at least one table, \
          each written under `[[peer]]`\n",
     ),
     (

@@ -7,7 +7,7 @@ use crate::tests::cases::Case;
 use crate::tests::made::report_of;
 use crate::tests::order::are_in_order;
 use gs_counts::{Counts, Kind, RunCounts, no_counts, over_links, run_counts};
-use gs_plan::Plan;
+use gs_plan::{Limits, Plan};
 use gs_reach::Chosen;
 use gs_report::Report;
 use gs_scenario::read_plan;
@@ -16,7 +16,7 @@ use std::alloc::{AllocError, Global};
 fn plan_of(alloc: Global, scenario: &str) -> Result<Plan, AllocError>
     ensures { IfOk result (λ plan. IsInRange plan) }
 {
-    match read_plan(alloc, scenario) {
+    match read_plan(alloc, Limits::Standard, scenario) {
         Ok(plan) => Ok(plan),
         Err(_) => Err(AllocError),
     }

@@ -7,7 +7,7 @@ use crate::tests::told::{names_in, told};
 use gs_base::Seq;
 use gs_direct::run_direct;
 use gs_figure_sheets::{Choice, Group, Layout, Subject, Wanted, figure_sheets};
-use gs_plan::Plan;
+use gs_plan::{Limits, Plan};
 use gs_report::Report;
 use gs_scenario::read_plan;
 use gs_sheets::{Sheet, sheets_table};
@@ -29,7 +29,7 @@ pub(crate) struct Case {
 fn plan_of(alloc: Global, scenario: &str) -> Result<Plan, AllocError>
     ensures { IfOk result (λ plan. IsInRange plan) }
 {
-    match read_plan(alloc, scenario) {
+    match read_plan(alloc, Limits::Standard, scenario) {
         Ok(plan) => Ok(plan),
         Err(_) => Err(AllocError),
     }

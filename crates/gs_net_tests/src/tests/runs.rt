@@ -2,6 +2,7 @@
 use gs_base::Millis;
 use gs_net::run_net;
 use gs_peer::{Gate, NoGate};
+use gs_plan::Limits;
 use gs_report::Finished;
 use gs_rules::{Refusal, RefusedLine};
 use gs_scenario::read_plan;
@@ -62,7 +63,7 @@ where
     let mut scenario = String::from_str(rt.alloc(), PEERS)?;
     scenario.push_str(dial)?;
     scenario.push_str(SCRIPT)?;
-    let Ok(plan) = read_plan(rt.alloc(), &scenario) else {
+    let Ok(plan) = read_plan(rt.alloc(), Limits::Standard, &scenario) else {
         return Ok(false);
     };
     let Ok(report) = run_net(rt, &plan, &NoGate) else {
@@ -121,7 +122,7 @@ where
 {
     let mut scenario = String::from_str(rt.alloc(), PEERS)?;
     scenario.push_str("[[peer]]\nname = \"c\"\n")?;
-    let Ok(plan) = read_plan(rt.alloc(), &scenario) else {
+    let Ok(plan) = read_plan(rt.alloc(), Limits::Standard, &scenario) else {
         return Ok(false);
     };
     let turns = Turns {

@@ -6,7 +6,7 @@ use crate::tests::cases::Case;
 use crate::tests::made::{chosen, groups_of, report_of};
 use crate::tests::order::are_in_order;
 use gs_opinions::{Opinions, opinions_of};
-use gs_plan::Plan;
+use gs_plan::{Limits, Plan};
 use gs_report::Report;
 use gs_scenario::read_plan;
 use std::alloc::{AllocError, Global};
@@ -14,7 +14,7 @@ use std::alloc::{AllocError, Global};
 fn plan_of(alloc: Global, scenario: &str) -> Result<Plan, AllocError>
     ensures { IfOk result (λ plan. IsInRange plan) }
 {
-    match read_plan(alloc, scenario) {
+    match read_plan(alloc, Limits::Standard, scenario) {
         Ok(plan) => Ok(plan),
         Err(_) => Err(AllocError),
     }

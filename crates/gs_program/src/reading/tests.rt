@@ -1,4 +1,5 @@
 use super::*;
+use gs_plan::Limits;
 use std::alloc::AllocError;
 use std::test::*;
 
@@ -17,7 +18,7 @@ fn is_end(ended: &Result<Plan, ExitStatus>, wanted: ExitStatus) -> bool {
 /// Says whether this fault of a reading ends the program this way, with this line on errors.
 fn ends_unread(alloc: Global, fault: ReadFault, wanted: ExitStatus, line: &str) -> bool {
     let mut errors = Vec::new(alloc);
-    let ended = plan_after(alloc, Err(fault), &mut errors);
+    let ended = plan_after(alloc, Limits::Standard, Err(fault), &mut errors);
     is_end(&ended, wanted) && errors.as_slice() == line.as_bytes()
 }
 
@@ -27,7 +28,7 @@ fn ends_with(alloc: Global, text: Vec<u8>, wanted: ExitStatus, line: &str) -> bo
         return false;
     }
     let mut errors = Vec::new(alloc);
-    let ended = plan_after(alloc, Ok(text), &mut errors);
+    let ended = plan_after(alloc, Limits::Standard, Ok(text), &mut errors);
     is_end(&ended, wanted) && errors.as_slice() == line.as_bytes()
 }
 

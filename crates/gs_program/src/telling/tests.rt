@@ -1,5 +1,6 @@
 use super::*;
 use gs_base::PeerNo;
+use gs_plan::Limits;
 use gs_scenario::read_plan;
 use gs_streams::fakes::Narrow;
 use std::test::*;
@@ -21,7 +22,7 @@ fn short(alloc: Global) -> Narrow {
 /// Says whether this line reports a fault of a run of the scenario, and whether a short writer gets the line's first ten
 /// bytes.
 fn tells(alloc: Global, fault: NetFault, line: &str) -> bool {
-    let Ok(plan) = read_plan(alloc, SCENARIO) else {
+    let Ok(plan) = read_plan(alloc, Limits::Standard, SCENARIO) else {
         return false;
     };
     let mut errors = Vec::new(alloc);

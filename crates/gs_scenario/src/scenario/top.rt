@@ -7,7 +7,7 @@ ghost use Rattle.gs_scenario.specs.Views.{section_of, top_view};
 use crate::fault::ScenarioFault;
 use crate::scenario::section::Section;
 use crate::scenario::tables::TableKind;
-use gs_plan::{LONGEST_ROUND, MOST_PEERS, MOST_ROUNDS};
+use gs_plan::{LONGEST_ROUND, Limits, MOST_PEERS, MOST_ROUNDS};
 use toml::{Table, Value};
 
 const ROUND_MS: &str = "round_ms";
@@ -63,8 +63,8 @@ pub struct Top<'a> {
 impl<'a> Top<'a> {
     /// Returns what the top table holds, with its keys read in their order.
     #[tactic(auto, unfolding(crate::specs::PlanOf::top_in, crate::specs::Keys::only))]
-    pub fn read(top: Section<'a>) -> Result<Top<'a>, ScenarioFault>
-        ensures plan { Gives top_view result (spec.top_in (section_of top.entry)) }
+    pub fn read(limits: Limits, top: Section<'a>) -> Result<Top<'a>, ScenarioFault>
+        ensures plan { Gives top_view result (spec.top_in limits (section_of top.entry)) }
         ensures round_ms { IfOk result (λ top.
             (1 ≤ top.round_ms) × (top.round_ms ≤ LONGEST_ROUND)) }
         ensures peers { IfOk result (λ top. length top.peers.now ≤ MOST_PEERS) }
@@ -78,7 +78,7 @@ impl<'a> Top<'a> {
             seed: top.number(SEED, 0, 0x7FFF_FFFF_FFFF_FFFF)?,
             params: top.table(PARAMS)?,
             topics: top.list(TOPIC, 1, 32)?,
-            peers: top.list(PEER, 1, MOST_PEERS)?,
+            peers: top.list(PEER, 1, limits.most_peers())?,
             dials: top.optional_list(DIAL)?,
             apps: top.optional_list(APP)?,
             explicit: top.optional_list(EXPLICIT)?,

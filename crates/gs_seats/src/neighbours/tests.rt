@@ -1,6 +1,6 @@
 //! The neighbours of peers in a plan, and what each peer is given about them.
 ghost use Rattle.std.specs.Prelude.{◌≤◌, IfOk, length};
-ghost use Rattle.gs_plan.specs.declared.plan.TheConstants.{MOST_PEERS as most};
+ghost use Rattle.gs_plan.specs.declared.limits.TheConstants.{MOST_PEERS as most};
 
 use super::*;
 use gs_base::{Seq, Text};

@@ -4,7 +4,7 @@ ghost use Rattle.gs_plan.specs.Plans.{IsInRange};
 
 use bytes::Bytes;
 use gs_base::Topic;
-use gs_plan::Plan;
+use gs_plan::{Limits, Plan};
 use gs_scenario::read_plan;
 use std::alloc::{AllocError, Global};
 
@@ -36,7 +36,7 @@ pub(crate) fn plan(alloc: Global) -> Result<Plan, AllocError>
 pub(crate) fn plan_of(alloc: Global, scenario: &str) -> Result<Plan, AllocError>
     ensures { IfOk result (λ plan. IsInRange plan) }
 {
-    match read_plan(alloc, scenario) {
+    match read_plan(alloc, Limits::Standard, scenario) {
         Ok(plan) => Ok(plan),
         Err(_) => Err(AllocError),
     }

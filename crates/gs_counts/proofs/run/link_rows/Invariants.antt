@@ -1,12 +1,10 @@
-use Rattle.std.proofs.Common.{◌≡◌, ℕ}
+use Rattle.std.proofs.Common.{◌≡◌}
 use Rattle.std.specs.List.{flat_map, range_with_len}
-use Rattle.gs_counts.specs.declared.counts.Counts.{Counts}
-use Rattle.gs_counts.specs.Listing.{by_number, links_by}
-use Rattle.gs_counts.specs.Standing.{lists, peer_no}
+use Rattle.gs_counts.specs.Listing.{links_by}
+use Rattle.gs_counts.specs.Standing.{link_row, peer_no}
 use Rattle.gs_counts.proofs.run.link_rows.Given as goal
 
 -- the links from the numbers so far
 abbrev pub invariant-loop-number : goal.invariant-loop-number
 invariant-loop-number l =
-    (row : ℕ → ℕ → Counts) → lists l.rows ≡ by_number (λ n. by_number (row n) l.count) l.count
-    → l.links ≡ flat_map (λ n. links_by l.dials l.count (peer_no n) (row n)) (range_with_len 0 l.number)
+    l.links ≡ flat_map (λ n. links_by l.dials l.count (peer_no n) (link_row l.rows (peer_no n))) (range_with_len 0 l.number)

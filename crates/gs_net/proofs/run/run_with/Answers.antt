@@ -1,4 +1,4 @@
-use Rattle.std.proofs.Common.{◌∙◌, ◌*◌, ℕ, List, length, map, sym, ap, subst, arith}
+use Rattle.std.proofs.Common.{◌∙◌, ◌*◌, ◌≤◌, ℕ, List, length, map, sym, ap, subst, arith}
 use Rattle.std.specs.Arc.{arc_value}
 use Rattle.std.specs.List.{AllByRecursion, range_with_len}
 use Rattle.std.proofs.lemmas.List.Elements.{All-from_recursion}
@@ -42,7 +42,8 @@ drive-requires-clause-flags g c κs lives = stops_all c.args.plan.now (arc_value
 
 pub lives_of-requires : goal.lives_of-requires
 lives_of-requires g c =
-    omega (arith, as_long _ c.in_ok-tasks.tasks.items c.in_ok-ran.ran.outputs.items c.in_ok-ran.ensures.given, as_many _ c.args.plan.now c.in_ok-tasks.tasks.items c.in_ok-tasks.ensures, c.requires.peers)
+    let most : length c.args.plan.now.peers ≤ 4096 = c.requires.peers in
+    omega (arith, as_long _ c.in_ok-tasks.tasks.items c.in_ok-ran.ran.outputs.items c.in_ok-ran.ensures.given, as_many _ c.args.plan.now c.in_ok-tasks.tasks.items c.in_ok-tasks.ensures, most)
 
 -- ---- once the tasks have given their lives
 

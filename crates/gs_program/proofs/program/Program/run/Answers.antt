@@ -5,5 +5,5 @@ use Rattle.gs_program.proofs.program.Program.run.Goals as goal
 
 pub returns-in-Ok : goal.returns-in-Ok
 returns-in-Ok g c =
-    subst (λ (told : Option (List ℕ)). EndsAs (g.P.Printer.text c.args.self.now.printer) g.P.Printer.in_parts false c.write.result (g.R.Read.remaining c.args.input.now) (g.R.Read.remaining c.read.new.input) (g.W.Write.contents c.args.output.now) (g.W.Write.contents c.write.new.output) told (g.E.Write.contents c.write.new.errors)) c.in-Ok.ensures.silent
+    subst (λ (told : Option (List ℕ)). EndsAs c.args.self.now.limits (g.P.Printer.text c.args.self.now.printer) g.P.Printer.in_parts false c.write.result (g.R.Read.remaining c.args.input.now) (g.R.Read.remaining c.read.new.input) (g.W.Write.contents c.args.output.now) (g.W.Write.contents c.write.new.output) told (g.E.Write.contents c.write.new.errors)) c.in-Ok.ensures.silent
     (c.write.ensures.ends false (memory_only c.run_direct-ran.result c.run_direct-ran.ensures.memory) (g.R.Read.remaining c.args.input.now) (g.R.Read.remaining c.read.new.input) c.in-Ok.ensures.found c.in-Ok.ensures.at_end)
