@@ -1,5 +1,5 @@
-//! Scenarios with the plan or the refusal that each must give. A crate with tests of its own is proved a second time with
-//! them, so these tests have a crate of their own.
+//! Tests of scenarios: how they are read, checked and edited. The prover proves a crate again with its own tests, so
+//! these have a crate of their own.
 #![tactic(auto)]
 
 #[cfg(test)]

@@ -1,5 +1,0 @@
-//! Tests of values and their lists. The prover proves a crate again with its own tests, so these have a crate of their own.
-#![tactic(auto)]
-
-#[cfg(test)]
-mod tests;

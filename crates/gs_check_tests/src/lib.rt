@@ -1,6 +1,0 @@
-//! Scenarios with what the program must say about each, and whole runs. A crate with tests of its own is proved a second
-//! time with them, so these tests have a crate of their own.
-#![tactic(auto)]
-
-#[cfg(test)]
-mod tests;

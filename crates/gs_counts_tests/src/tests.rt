@@ -1,9 +1,0 @@
-mod cases;
-mod chosen;
-mod heard;
-mod made;
-mod made_rpcs;
-mod nothing;
-mod order;
-mod sent;
-mod told;

@@ -1,8 +1,0 @@
-mod names;
-mod nobody;
-mod order;
-mod ran;
-mod runs;
-mod scenarios;
-mod tables;
-mod told;

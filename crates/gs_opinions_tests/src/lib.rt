@@ -1,6 +1,0 @@
-//! The lowest opinions of runs, over traces that were made by hand. A crate is proved once more with its own tests, so these
-//! stand apart from what they call.
-#![tactic(auto)]
-
-#[cfg(test)]
-mod tests;

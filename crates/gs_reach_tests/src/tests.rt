@@ -1,7 +1,0 @@
-mod chosen;
-mod distributions;
-mod made;
-mod messages;
-mod repeats;
-mod spreads;
-mod subscribers;

@@ -1,5 +1,0 @@
-//! The texts of reports. A crate is proved once more with its own tests, so these stand apart from what they call.
-#![tactic(auto)]
-
-#[cfg(test)]
-mod tests;

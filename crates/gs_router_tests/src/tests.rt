@@ -1,0 +1,4 @@
+//! Tests by the crates that they call.
+mod gossip;
+mod meshes;
+mod messages;

@@ -1,5 +1,0 @@
-//! The lines of traces. A crate is proved again with its own tests, so these are in a crate of their own.
-#![tactic(auto)]
-
-#[cfg(test)]
-mod tests;

@@ -1,0 +1,4 @@
+//! Tests by the crates that they call.
+mod base;
+mod params;
+mod wire;

@@ -1,6 +1,0 @@
-//! Bodies, frames and streams with the RPCs that each must spell. A crate with tests of its own is proved a second time with
-//! them, so these tests have a crate of their own.
-#![tactic(auto)]
-
-#[cfg(test)]
-mod tests;
