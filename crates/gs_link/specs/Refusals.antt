@@ -1,4 +1,4 @@
--- The numbers of a link's refusals, as docs/FORMATS.md lists them.
+-- The numbers of a link's refusals, as docs/REFUSALS.md lists them.
 use Rattle.std.specs.Prelude.{ℕ}
 use Rattle.gs_link.specs.declared.fault.LinkFault.{LinkFault}
 use Rattle.gs_link.specs.declared.fault.LinkFault.TheVariants as link

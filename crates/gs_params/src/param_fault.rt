@@ -21,7 +21,7 @@ pub enum ParamFault {
 }
 
 impl ParamFault {
-    /// Returns the number of the refusal, as docs/FORMATS.md lists it: 1 to 4.
+    /// Returns the number of the refusal, as docs/REFUSALS.md lists it: 1 to 4.
     pub fn number(self) -> u8
         ensures { result ≡ number_of self }
     {

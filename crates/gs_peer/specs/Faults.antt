@@ -1,4 +1,4 @@
--- The numbers of a task's faults, as docs/FORMATS.md lists them, and the flag that a fault is evidence of.
+-- The numbers of a task's faults, as docs/REFUSALS.md lists them, and the flag that a fault is evidence of.
 use Rattle.std.specs.Prelude.{◌≡◌, ℕ}
 use Rattle.gs_workers.specs.Flags.{FlagId}
 use Rattle.gs_peer.specs.declared.finished_task.PeerFault.{PeerFault}

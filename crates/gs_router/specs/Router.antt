@@ -31,7 +31,7 @@ pub record IsSound (s : State) (is_stopped : Bool) : Type 0 where
   pub legal : Legal (peer_with s.known.setup) s.trace
   pub ready : is_stopped ≡ false → IsReady s
 
--- the number of a fault, as docs/FORMATS.md lists it
+-- the number of a fault, as docs/REFUSALS.md lists it
 abbrev pub number_of : RouterFault → ℕ
 number_of (Refused why) = refusals.number_of why
 number_of NoMemory = 20

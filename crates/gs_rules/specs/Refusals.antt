@@ -14,7 +14,7 @@ use Rattle.gs_rules.specs.Peers.{Peer, seen_ttl}
 use Rattle.gs_rules.specs.Tables.{Entries, is_shut, joined, seen, up}
 use Rattle.gs_rules.specs.Legal.{has_room_for}
 
--- the numbers of refusals, as docs/FORMATS.md lists them
+-- the numbers of refusals, as docs/REFUSALS.md lists them
 abbrev pub number_of : Refusal → ℕ
 number_of AlreadySeen = 16
 number_of TooLong = 17

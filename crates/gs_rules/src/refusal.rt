@@ -30,7 +30,7 @@ pub enum Refusal {
 }
 
 impl Refusal {
-    /// Returns the number of the refusal, as docs/FORMATS.md lists it: 16 to 19, 21, 33 and 34.
+    /// Returns the number of the refusal, as docs/REFUSALS.md lists it: 16 to 19, 21, 33 and 34.
     pub fn number(self) -> u8
         ensures { result ≡ number_of self }
     {

@@ -21,7 +21,7 @@ found_of (datetime time) = found.Date
 found_of (array ds) = found.List (item_count ds)
 found_of (table entries) = found.Table
 
--- the numbers of refusals, as docs/FORMATS.md lists them
+-- the numbers of refusals, as docs/REFUSALS.md lists them
 abbrev pub number_of : ScenarioFault → ℕ
 number_of (Params fault) = params.number_of fault
 number_of Toml = 26

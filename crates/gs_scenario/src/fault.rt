@@ -34,7 +34,7 @@ pub enum ScenarioFault {
 }
 
 impl ScenarioFault {
-    /// Returns the number of the refusal, as docs/FORMATS.md lists it: 26 to 32, or 1 to 4 for parameters.
+    /// Returns the number of the refusal, as docs/REFUSALS.md lists it: 26 to 32, or 1 to 4 for parameters.
     pub fn number(&self) -> u8
         ensures { result ≡ number_of self.now }
     {

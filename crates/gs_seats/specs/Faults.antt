@@ -1,4 +1,4 @@
--- A run's faults, with the numbers that docs/FORMATS.md lists.
+-- A run's faults, with the numbers that docs/REFUSALS.md lists.
 use Rattle.std.specs.Prelude.{ℕ}
 use Rattle.gs_seats.specs.declared.fault.NetFault.{NetFault}
 use Rattle.gs_seats.specs.declared.fault.NetFault.TheVariants.{NoMemory, NoThread}

@@ -267,7 +267,7 @@ fn events_and_marks_are_equal_where_their_parts_are(rt: HostRuntime) -> Result<(
     Ok(())
 }
 
-/// The numbers of the refusals, as docs/FORMATS.md lists them.
+/// The numbers of the refusals, as docs/REFUSALS.md lists them.
 #[test]
 fn each_refusal_has_its_number(rt: HostRuntime) {
     for (why, number) in [
