@@ -5,3 +5,4 @@ pub mod ParamsOf
 pub mod TopicParamsOf
 pub mod PlanOf
 pub mod Views
+pub mod ByKey

@@ -9,6 +9,8 @@ mod dials;
 mod elements;
 mod explicit;
 mod field;
+mod indexed;
+mod keys;
 mod pairs;
 mod params;
 mod peers;
@@ -70,16 +72,18 @@ fn plan_in(alloc: Global, limits: Limits, table: &Table) -> Result<Plan, Scenari
     let shared = shared_of(alloc, top.params, top.round_ms)?;
     let topics = topics_in(alloc, top.topics)?;
     let peers = peers_in(alloc, top.peers)?;
-    let dials = dials_in(alloc, peers.as_slice(), top.dials)?;
-    let apps = apps_in(alloc, peers.as_slice(), dials.as_slice(), top.apps)?;
-    let explicit = agreements_in(alloc, peers.as_slice(), dials.as_slice(), top.explicit)?;
+    let dials = dials_in(alloc, &peers, top.dials)?;
+    let apps = apps_in(alloc, &peers, &dials, top.apps)?;
+    let explicit = agreements_in(alloc, &peers, &dials, top.explicit)?;
     let known = Known {
         topics: topics.as_slice(),
-        peers: peers.as_slice(),
-        dials: dials.as_slice(),
+        peers: &peers,
+        dials: &dials,
         rounds: top.rounds,
     };
     let script = lines_in(alloc, known, top.script)?;
+    let peers = peers.into_seq();
+    let dials = dials.into_seq();
     let params = params_of(shared, topics)?;
     Ok(Plan {
         round_ms: top.round_ms,

@@ -8,13 +8,15 @@ ghost use Rattle.gs_plan.specs.Plans.{are_of_the_same};
 ghost use Rattle.gs_scenario.specs.PlanOf.{app_in, app_keys};
 
 use crate::fault::ScenarioFault;
-use crate::scenario::elements::read_each;
 use crate::scenario::field::table_of;
+use crate::scenario::indexed::Indexed;
+use crate::scenario::keys::Pair;
 use crate::scenario::pairs::{ABOUT, PEER, pair_in};
+use crate::scenario::peers::{Dials, Peers};
 use crate::scenario::place::{Element, Place};
 use crate::scenario::tables::TableKind;
 use gs_base::Seq;
-use gs_plan::{App, Dial, HIGHEST_APP_SCORE, MOST_PEERS, PlannedPeer};
+use gs_plan::{App, HIGHEST_APP_SCORE, MOST_PEERS};
 use std::alloc::Global;
 use toml::Value;
 
@@ -28,29 +30,31 @@ pub fn keys() -> &'static [&'static str]
 }
 
 /// Returns the scores of a list, in its order.
+#[tactic(auto, unfolding(crate::specs::Keys::read_each))]
 pub fn apps_in(
     alloc: Global,
-    peers: &[PlannedPeer],
-    dials: &[Dial],
+    peers: &Peers,
+    dials: &Dials,
     list: &[Value],
 ) -> Result<Seq<App>, ScenarioFault>
     requires { length peers.now ≤ MOST_PEERS }
     ensures { GivesSame result (read_each (app_in peers.now dials.now) [] (items_view list.now)) }
 {
-    read_each(
-        alloc,
-        list,
-        move |earlier, value| app_in(alloc, peers, dials, earlier, value),
-    )
+    let mut apps = Indexed::new(alloc);
+    for value in list {
+        let app = app_in(alloc, peers, dials, &apps, value)?;
+        apps = apps.with(alloc, app)?;
+    }
+    Ok(apps.into_seq())
 }
 
 /// Returns the score that stands in the list after the earlier ones.
 #[tactic(auto, unfolding(crate::specs::PlanOf::app_in))]
 fn app_in(
     alloc: Global,
-    peers: &[PlannedPeer],
-    dials: &[Dial],
-    earlier: &[App],
+    peers: &Peers,
+    dials: &Dials,
+    earlier: &Indexed<Pair, App>,
     value: &Value,
 ) -> Result<App, ScenarioFault>
     requires { length peers.now ≤ MOST_PEERS }
@@ -76,14 +80,8 @@ fn app_in(
 }
 
 /// Says whether an earlier score is of the same peer for the same neighbour.
-fn is_repeated(earlier: &[App], app: &App) -> bool
+fn is_repeated(earlier: &Indexed<Pair, App>, app: &App) -> bool
     ensures { result ≡ list_any (are_of_the_same app.now) earlier.now }
 {
-    earlier.iter().any(|other| are_of_the_same(app, other))
-}
-
-fn are_of_the_same(one: &App, other: &App) -> bool
-    ensures { result ≡ are_of_the_same one.now other.now }
-{
-    one.peer == other.peer && one.about == other.about
+    earlier.has(&Pair(app.peer, app.about))
 }

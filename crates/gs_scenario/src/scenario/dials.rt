@@ -4,17 +4,15 @@ ghost use Rattle.toml.specs.View.{view, items_view};
 ghost use Rattle.gs_scenario.specs.Refusal.{GivesSame};
 ghost use Rattle.gs_scenario.specs.Keys.{read_each};
 ghost use Rattle.gs_scenario.specs.PlanOf.{dial_in, dial_keys};
-ghost use Rattle.gs_plan.specs.Plans.{are_joined};
 
 use crate::fault::ScenarioFault;
 use crate::reason::Wanted;
-use crate::scenario::elements::read_each;
 use crate::scenario::field::table_of;
-use crate::scenario::peers::peer_of;
+use crate::scenario::indexed::Indexed;
+use crate::scenario::peers::{Dials, Peers, are_joined, peer_of};
 use crate::scenario::place::{Element, Place};
 use crate::scenario::tables::TableKind;
-use gs_base::Seq;
-use gs_plan::{Dial, MOST_PEERS, PlannedPeer, are_joined};
+use gs_plan::{Dial, MOST_PEERS};
 use std::alloc::Global;
 use toml::Value;
 
@@ -30,27 +28,25 @@ pub fn keys() -> &'static [&'static str]
 }
 
 /// Returns the dials of a list, in its order.
-pub fn dials_in(
-    alloc: Global,
-    peers: &[PlannedPeer],
-    list: &[Value],
-) -> Result<Seq<Dial>, ScenarioFault>
+#[tactic(auto, unfolding(crate::specs::Keys::read_each))]
+pub fn dials_in(alloc: Global, peers: &Peers, list: &[Value]) -> Result<Dials, ScenarioFault>
     requires { length peers.now ≤ MOST_PEERS }
     ensures { GivesSame result (read_each (dial_in peers.now) [] (items_view list.now)) }
 {
-    read_each(
-        alloc,
-        list,
-        |earlier, value| dial_in(alloc, peers, earlier, value),
-    )
+    let mut dials = Indexed::new(alloc);
+    for value in list {
+        let dial = dial_in(alloc, peers, &dials, value)?;
+        dials = dials.with(alloc, dial)?;
+    }
+    Ok(dials)
 }
 
 /// Returns the dial that stands in the list after the earlier ones.
 #[tactic(auto, unfolding(crate::specs::PlanOf::dial_in))]
 fn dial_in(
     alloc: Global,
-    peers: &[PlannedPeer],
-    earlier: &[Dial],
+    peers: &Peers,
+    earlier: &Dials,
     value: &Value,
 ) -> Result<Dial, ScenarioFault>
     requires { length peers.now ≤ MOST_PEERS }
@@ -69,15 +65,8 @@ fn dial_in(
         return Err(field.out_of_range(Wanted::AnotherPeer)?);
     }
     let dial = Dial { from, to };
-    if is_repeated(earlier, &dial) {
+    if are_joined(earlier, from, to) {
         return Err(ScenarioFault::Repeated(Place::Element(element).to_text(alloc)?));
     }
     Ok(dial)
-}
-
-/// Says whether an earlier dial joins the same peers.
-fn is_repeated(earlier: &[Dial], dial: &Dial) -> bool
-    ensures { result ≡ are_joined earlier.now dial.now.from dial.now.to }
-{
-    are_joined(earlier, dial.from, dial.to)
 }

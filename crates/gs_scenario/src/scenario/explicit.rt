@@ -8,13 +8,15 @@ ghost use Rattle.gs_plan.specs.Plans.{are_one_pair};
 ghost use Rattle.gs_scenario.specs.PlanOf.{agreement_in, explicit_keys};
 
 use crate::fault::ScenarioFault;
-use crate::scenario::elements::read_each;
 use crate::scenario::field::table_of;
+use crate::scenario::indexed::Indexed;
+use crate::scenario::keys::Pair;
 use crate::scenario::pairs::{ABOUT, PEER, pair_in};
+use crate::scenario::peers::{Dials, Peers};
 use crate::scenario::place::{Element, Place};
 use crate::scenario::tables::TableKind;
 use gs_base::Seq;
-use gs_plan::{Dial, Explicit, MOST_PEERS, PlannedPeer};
+use gs_plan::{Explicit, MOST_PEERS};
 use std::alloc::Global;
 use toml::Value;
 
@@ -26,29 +28,31 @@ pub fn keys() -> &'static [&'static str]
 }
 
 /// Returns the agreements of a list, in its order.
+#[tactic(auto, unfolding(crate::specs::Keys::read_each))]
 pub fn agreements_in(
     alloc: Global,
-    peers: &[PlannedPeer],
-    dials: &[Dial],
+    peers: &Peers,
+    dials: &Dials,
     list: &[Value],
 ) -> Result<Seq<Explicit>, ScenarioFault>
     requires { length peers.now ≤ MOST_PEERS }
     ensures { GivesSame result (read_each (agreement_in peers.now dials.now) [] (items_view list.now)) }
 {
-    read_each(
-        alloc,
-        list,
-        move |earlier, value| agreement_in(alloc, peers, dials, earlier, value),
-    )
+    let mut agreements = Indexed::new(alloc);
+    for value in list {
+        let agreement = agreement_in(alloc, peers, dials, &agreements, value)?;
+        agreements = agreements.with(alloc, agreement)?;
+    }
+    Ok(agreements.into_seq())
 }
 
 /// Returns the agreement that stands in the list after the earlier ones.
 #[tactic(auto, unfolding(crate::specs::PlanOf::agreement_in))]
 fn agreement_in(
     alloc: Global,
-    peers: &[PlannedPeer],
-    dials: &[Dial],
-    earlier: &[Explicit],
+    peers: &Peers,
+    dials: &Dials,
+    earlier: &Indexed<Pair, Explicit>,
     value: &Value,
 ) -> Result<Explicit, ScenarioFault>
     requires { length peers.now ≤ MOST_PEERS }
@@ -72,14 +76,8 @@ fn agreement_in(
 }
 
 /// Says whether an earlier agreement is of the same peer with the same neighbour.
-fn is_repeated(earlier: &[Explicit], agreement: &Explicit) -> bool
+fn is_repeated(earlier: &Indexed<Pair, Explicit>, agreement: &Explicit) -> bool
     ensures { result ≡ list_any (are_one_pair agreement.now) earlier.now }
 {
-    earlier.iter().any(|other| are_one_pair(agreement, other))
-}
-
-fn are_one_pair(one: &Explicit, other: &Explicit) -> bool
-    ensures { result ≡ are_one_pair one.now other.now }
-{
-    one.peer == other.peer && one.about == other.about
+    earlier.has(&Pair(agreement.peer, agreement.about))
 }

@@ -5,10 +5,10 @@ ghost use Rattle.gs_scenario.specs.PlanOf.{pair_in};
 ghost use Rattle.gs_scenario.specs.Views.{section_of};
 
 use crate::fault::ScenarioFault;
-use crate::scenario::peers::{neighbour_of, peer_of};
+use crate::scenario::peers::{Dials, Peers, neighbour_of, peer_of};
 use crate::scenario::section::Section;
 use gs_base::PeerNo;
-use gs_plan::{Dial, MOST_PEERS, PlannedPeer};
+use gs_plan::MOST_PEERS;
 
 /// The key of the peer.
 pub const PEER: &str = "peer";
@@ -19,8 +19,8 @@ pub const ABOUT: &str = "about";
 /// Returns the peer that a table names, and its neighbour.
 #[tactic(auto, unfolding(crate::specs::PlanOf::pair_in))]
 pub fn pair_in(
-    peers: &[PlannedPeer],
-    dials: &[Dial],
+    peers: &Peers,
+    dials: &Dials,
     section: &Section<'_>,
 ) -> Result<(PeerNo, PeerNo), ScenarioFault>
     requires { length peers.now ≤ MOST_PEERS }

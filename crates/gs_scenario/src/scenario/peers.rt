@@ -1,24 +1,31 @@
 //! The peers of a scenario.
-ghost use Rattle.std.specs.Prelude.{◌≡◌, ◌<◌, ◌≤◌, [], IfOk, IfSome, length, map, nat_eq, position};
-ghost use Rattle.std.specs.Cmp.Lexicographic.{pointwise};
+ghost use Rattle.std.specs.Prelude.{◌≡◌, ◌≤◌, [], IfOk, is_some, length, map};
 ghost use Rattle.toml.specs.View.{view, items_view};
 ghost use Rattle.gs_scenario.specs.declared.reason.NameKind.TheVariants as names;
 ghost use Rattle.gs_scenario.specs.Refusal.{GivesSame};
 ghost use Rattle.gs_scenario.specs.Keys.{read_each};
 ghost use Rattle.gs_scenario.specs.Kinds.{reference};
 ghost use Rattle.gs_scenario.specs.Views.{read_as};
+ghost use Rattle.gs_plan.specs.Plans.{are_joined};
 ghost use Rattle.gs_scenario.specs.PlanOf.{neighbour, peer_in, peer_keys, peer_named};
 
 use crate::fault::ScenarioFault;
 use crate::reason::NameKind;
-use crate::scenario::elements::read_each;
 use crate::scenario::field::{Field, table_of};
+use crate::scenario::indexed::Indexed;
+use crate::scenario::keys::{Name, Pair};
 use crate::scenario::place::Element;
 use crate::scenario::tables::TableKind;
-use gs_base::{PeerNo, Seq, Text};
-use gs_plan::{Dial, MOST_PEERS, PlannedPeer, are_joined};
-use std::alloc::Global;
+use gs_base::{PeerNo, Text};
+use gs_plan::{Dial, MOST_PEERS, PlannedPeer};
+use std::alloc::{AllocError, Global};
 use toml::Value;
+
+/// Peers, to be found by their names.
+pub type Peers = Indexed<Name, PlannedPeer>;
+
+/// Dials, to be found by the peers that they join.
+pub type Dials = Indexed<Pair, Dial>;
 
 const NAME: &str = "name";
 
@@ -34,20 +41,22 @@ pub fn keys() -> &'static [&'static str]
 }
 
 /// Returns the peers of a list, in its order.
-pub fn peers_in(alloc: Global, list: &[Value]) -> Result<Seq<PlannedPeer>, ScenarioFault>
+#[tactic(auto, unfolding(crate::specs::Keys::read_each))]
+pub fn peers_in(alloc: Global, list: &[Value]) -> Result<Peers, ScenarioFault>
     ensures read { GivesSame result (read_each peer_in [] (items_view list.now)) }
     ensures count { IfOk result (λ peers. length peers ≡ length list.now) }
 {
-    read_each(alloc, list, |earlier, value| peer_in(alloc, earlier, value))
+    let mut peers = Indexed::new(alloc);
+    for value in list {
+        let peer = peer_in(alloc, &peers, value)?;
+        peers = peers.with(alloc, peer)?;
+    }
+    Ok(peers)
 }
 
 /// Returns the peer that stands in the list after the earlier ones.
 #[tactic(auto, unfolding(crate::specs::PlanOf::peer_in))]
-fn peer_in(
-    alloc: Global,
-    earlier: &[PlannedPeer],
-    value: &Value,
-) -> Result<PlannedPeer, ScenarioFault>
+fn peer_in(alloc: Global, earlier: &Peers, value: &Value) -> Result<PlannedPeer, ScenarioFault>
     ensures { GivesSame result (peer_in earlier.now (view value.now)) }
 {
     let element = Element {
@@ -58,7 +67,7 @@ fn peer_in(
     section.only(TableKind::Peer)?;
     let field = section.required(NAME)?;
     let name = field.name()?;
-    if index_of(earlier, name).is_some() {
+    if is_named(alloc, earlier, name)? {
         return Err(field.repeated()?);
     }
     let address = section.text(ADDRESS, name)?;
@@ -71,12 +80,12 @@ fn peer_in(
 }
 
 /// Returns the number of the peer that a value names.
-pub fn peer_of(peers: &[PlannedPeer], field: &Field<'_>) -> Result<PeerNo, ScenarioFault>
+pub fn peer_of(peers: &Peers, field: &Field<'_>) -> Result<PeerNo, ScenarioFault>
     requires { length peers.now ≤ MOST_PEERS }
     ensures { GivesSame result (read_as (reference names.Peer (peer_named peers.now)) field.now) }
 {
     let name = field.name()?;
-    match peer_named(peers, name) {
+    match peer_named(field.alloc, peers, name)? {
         Some(peer) => Ok(peer),
         None => Err(field.unknown(name, NameKind::Peer)?),
     }
@@ -84,8 +93,8 @@ pub fn peer_of(peers: &[PlannedPeer], field: &Field<'_>) -> Result<PeerNo, Scena
 
 /// Returns the neighbour of a peer that a value names.
 pub fn neighbour_of(
-    peers: &[PlannedPeer],
-    dials: &[Dial],
+    peers: &Peers,
+    dials: &Dials,
     peer: PeerNo,
     field: &Field<'_>,
 ) -> Result<PeerNo, ScenarioFault>
@@ -101,17 +110,31 @@ pub fn neighbour_of(
     }
 }
 
-fn peer_named(peers: &[PlannedPeer], name: &str) -> Option<PeerNo>
-    requires { length peers.now ≤ MOST_PEERS }
-    ensures { result ≡ peer_named peers.now name.now }
+/// Says whether a peer has a name.
+#[tactic(auto, using(crate::proofs::ByKey::a_name_is_found))]
+fn is_named(alloc: Global, peers: &Peers, name: &str) -> Result<bool, AllocError>
+    ensures { IfOk result (λ found. found ≡ is_some (peer_named peers.now name.now)) }
 {
-    let index = index_of(peers, name)?;
-    Some(PeerNo(index as u16))
+    let name = Name::of(alloc, name)?;
+    Ok(peers.has(&name))
 }
 
-fn index_of(peers: &[PlannedPeer], name: &str) -> Option<usize>
-    ensures index { result ≡ position (λ peer. pointwise nat_eq peer.name name.now) peers.now }
-    ensures within { IfSome result (λ index. index < length peers.now) }
+/// Says whether a dial joins two peers.
+#[tactic(auto, using(crate::proofs::ByKey::a_dial_is_found))]
+pub fn are_joined(dials: &Dials, one: PeerNo, other: PeerNo) -> bool
+    ensures { result ≡ are_joined dials.now one other }
 {
-    peers.iter().position(|peer| peer.name.as_str() == name)
+    dials.has(&Pair::joined(one, other))
+}
+
+#[tactic(auto, using(crate::proofs::ByKey::a_name_has_its_place))]
+fn peer_named(alloc: Global, peers: &Peers, name: &str) -> Result<Option<PeerNo>, AllocError>
+    requires { length peers.now ≤ MOST_PEERS }
+    ensures { IfOk result (λ found. found ≡ peer_named peers.now name.now) }
+{
+    let name = Name::of(alloc, name)?;
+    match peers.place(&name) {
+        Some(place) => Ok(Some(PeerNo(place as u16))),
+        None => Ok(None),
+    }
 }

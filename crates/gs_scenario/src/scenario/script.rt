@@ -11,16 +11,13 @@ ghost use Rattle.gs_scenario.specs.PlanOf.{line_in, link_key, topic_key, what_in
 use crate::fault::ScenarioFault;
 use crate::reason::Wanted;
 use crate::scenario::field::{Field, table_of};
-use crate::scenario::peers::{neighbour_of, peer_of};
+use crate::scenario::peers::{Dials, Peers, neighbour_of, peer_of};
 use crate::scenario::place::Element;
 use crate::scenario::section::Section;
 use crate::scenario::tables::TableKind;
 use crate::scenario::topics::{TopicEntry, topic_of};
 use gs_base::{PeerNo, Seq, Topic};
-use gs_plan::{
-    Act, Dial, HANG_UP, LONGEST_RAW, Line, MOST_PEERS, PUBLISH, PlannedPeer, RAW, SUBSCRIBE,
-    UNSUBSCRIBE,
-};
+use gs_plan::{Act, HANG_UP, LONGEST_RAW, Line, MOST_PEERS, PUBLISH, RAW, SUBSCRIBE, UNSUBSCRIBE};
 use std::alloc::Global;
 use toml::Value;
 
@@ -40,8 +37,8 @@ const HEX: &str = "hex";
 #[derive(Clone, Copy)]
 pub struct Known<'a> {
     pub topics: &'a [TopicEntry],
-    pub peers: &'a [PlannedPeer],
-    pub dials: &'a [Dial],
+    pub peers: &'a Peers,
+    pub dials: &'a Dials,
     /// The number of the last round.
     pub rounds: u64,
 }

@@ -1,6 +1,11 @@
+use Rattle.std.proofs.Common.{◌≡◌, [], drop}
+use Rattle.toml.specs.View.{items_view}
+use Rattle.gs_scenario.specs.Keys.{read_each}
 use Rattle.gs_scenario.specs.PlanOf.{app_in}
 use Rattle.gs_scenario.proofs.scenario.apps.apps_in.Given as goal
 
--- what each element is read as
-abbrev pub ghost-read_each : goal.ghost-read_each
-ghost-read_each a = app_in a.read.1.now a.read.2.now
+-- what the rest of the list gives after these elements is what the whole gives
+abbrev pub invariant-loop-value : goal.invariant-loop-value
+invariant-loop-value l =
+    let read = app_in l.peers l.dials in
+    read_each read l.apps (items_view (drop l.value-index l.list)) ≡ read_each read [] (items_view l.list)
