@@ -59,7 +59,7 @@ fit_both [] ys h k = k
 fit_both (x ∷ xs) ys h k = (h.0, fit_both xs ys h.1 k)
 
 -- each by each
-pub all_arrive : (dials : List Dial) (r : ℕ) (peers : List Peer) (p : PeerNo) (R : PeerNo → Inbound → Type 0) (K : Entries) (most n : ℕ) (letters : List Letter)
+pub all_arrive : {T : Type 0} → (dials : List Dial) (r : ℕ) (peers : List (Peer T)) (p : PeerNo) (R : PeerNo → Inbound → Type 0) (K : Entries) (most n : ℕ) (letters : List Letter)
     → n ≤ most
     → ((q : PeerNo) (last : List Letter) → q.0 < most → are_joined dials p q ≡ true → Delivers r (said_so_far peers p q) q last → IsHeard R K q last)
     → ArriveFrom dials r peers p n letters

@@ -3,6 +3,7 @@ use Rattle.std.proofs.Common.{◌≡◌, ◌<◌, ◌*◌, ℕ, suc, Bool, true,
 use Rattle.std.specs.Prelude.{option_map, unwrap_or, slice_get, option_to_list, Vec}
 use Rattle.std.specs.List.{flat_map, AllByRecursion, AllZip}
 use Rattle.std.specs.declared.alloc.Global.{Global}
+use Rattle.std.proofs.lemmas.Bool.{cases_lt}
 use Rattle.std.proofs.lemmas.Option.{same_Some, slice_get-map}
 use Rattle.gs_base.specs.declared.names.PeerNo.{PeerNo}
 use Rattle.gs_base.specs.declared.names.Millis.{Millis}
@@ -30,6 +31,8 @@ use Rattle.gs_rules.proofs.Handled.{GoesOn, does_on}
 use Rattle.gs_rules.proofs.Legality.{legal_newest}
 use Rattle.gs_rules.proofs.Spelled.{bytes_of_append}
 use Rattle.gs_report.specs.declared.finished.Finished.{Finished}
+use Rattle.gs_router.specs.Following.{AreInOrder}
+use Rattle.gs_router.specs.Log.{this_round}
 use Rattle.gs_seats.specs.ListsByPeer.{list_at}
 use Rattle.gs_seats.specs.Rounds.{IsRun, first_words, neighbours, peer_in, peer_no, said_to, seat_in, trace_of}
 use Rattle.gs_seats.specs.Played.{IsPlayedLife}
@@ -37,6 +40,7 @@ use Rattle.gs_seats.proofs.ByNumber.{as_many, at_number, each_by_number, zip_by_
 use Rattle.gs_seats.proofs.Joined.{IsJoined, joined_back, neighbours_joined, of_joined}
 use Rattle.gs_seats.proofs.Lives.{played_is_run}
 use Rattle.gs_seats.proofs.NeighbourLists.{links_in}
+use Rattle.gs_seats.proofs.Ordered.{legal_in_order}
 use Rattle.gs_player.specs.Words.{StandsAfter}
 use Rattle.gs_player.proofs.Growing.{rounds_stay}
 use Rattle.gs_player.proofs.Growing as growing
@@ -49,10 +53,12 @@ use Rattle.gs_direct.specs.declared.letter.Letter.{Letter}
 use Rattle.gs_direct.specs.declared.peer.Peer.{Peer}
 use Rattle.gs_direct.specs.Letters.{all_heard}
 use Rattle.gs_direct.specs.Peers.{Closes, left_of}
-use Rattle.gs_direct.specs.Runs.{AreAt, Delivers, HaveClosed, IsAt, IsReady, said_so_far}
+use Rattle.gs_direct.specs.Observing.{HaveGrown}
+use Rattle.gs_direct.specs.Runs.{AreAt, Delivers, HaveClosed, IsAt, IsReady, said_so_far, trace_at}
 use Rattle.gs_direct.proofs.Arriving.{AreHeard, IsHeard, all_arrive}
 use Rattle.gs_direct.proofs.Rounds.{Alike, alike_append, alike_does, alike_same, less_ending, more_ending}
-use Rattle.gs_direct.proofs.Turning.{of_tos, trace_is}
+use Rattle.gs_direct.proofs.Rounding.{close_adds, rounds_end}
+use Rattle.gs_direct.proofs.Turning.{nobody, of_tos, trace_is}
 
 -- ---- what a peer says at the end
 
@@ -111,7 +117,7 @@ one_late seat said N q w more is_open letters is silent stands down d =
 
 -- ---- the end of all
 
-module _ (plan : Plan) (olds news : List Peer) (mail : List (Vec Letter Global))
+module _ {T : Type 0} (plan : Plan) (olds news : List (Peer T)) (mail : List (Vec Letter Global))
     (at_end : AreAt plan (suc plan.rounds) olds mail)
     (closed : HaveClosed (moment_of (seat_in plan (peer_no 0)) Closing) olds mail (length plan.peers) news) where
   abbrev now : Millis
@@ -122,8 +128,8 @@ module _ (plan : Plan) (olds news : List Peer) (mail : List (Vec Letter Global))
 
   -- A peer before and after it has shut down.
   record Ended (p : PeerNo) : Type 0 where
-    old : Peer
-    new : Peer
+    old : Peer T
+    new : Peer T
     was : slice_get olds p.0 ≡ Some old
     is : slice_get news p.0 ≡ Some new
     at : IsAt plan (suc plan.rounds) olds p old
@@ -140,10 +146,10 @@ module _ (plan : Plan) (olds news : List Peer) (mail : List (Vec Letter Global))
         was = was;
         is = one.is;
         at = at;
-        closes_so = subst (λ (x : Peer). Closes now (list_at mail p.0) x one.new) same one.closes_so;
+        closes_so = subst (λ (x : Peer T). Closes now (list_at mail p.0) x one.new) same one.closes_so;
       }
 
-  trace_left : (q : PeerNo) (new : Peer) → slice_get news q.0 ≡ Some new → trace_of lives q ≡ new.router.trace
+  trace_left : (q : PeerNo) (new : Peer T) → slice_get news q.0 ≡ Some new → trace_of lives q ≡ new.router.trace
   trace_left q new is =
       ap (λ (found : Option Finished). unwrap_or (option_map (λ (life : Finished). life.trace) found) []) (slice_get-map (left_of now) news q.0 ∙ ap (option_map (left_of now)) is)
 
@@ -223,10 +229,10 @@ module _ (plan : Plan) (olds news : List Peer) (mail : List (Vec Letter Global))
       let (b, there) = of_joined (λ (s : PeerNo). (b : Bool) × StandsAfter (suc plan.rounds) (out codec (K q m) s) b) plan q p (joined_back plan p q below joined) each in
       record { is_open = b; stands = subst (λ (J : Entries). StandsAfter (suc plan.rounds) (out codec J p) b) (sym (trace_is olds q m.old m.was)) there }
 
-  one_life : (p : PeerNo) (new : Peer) → p.0 < length plan.peers → slice_get news p.0 ≡ Some new → IsPlayedLife plan lives p (left_of now new)
+  one_life : (p : PeerNo) (new : Peer T) → p.0 < length plan.peers → slice_get news p.0 ≡ Some new → IsPlayedLife plan lives p (left_of now new)
   one_life p new below is =
       let m = ended p below in
-      subst (λ (x : Peer). IsPlayedLife plan lives p (left_of now x)) (same_Some m.new new (sym m.is ∙ is)) (record {
+      subst (λ (x : Peer T). IsPlayedLife plan lives p (left_of now x)) (same_Some m.new new (sym m.is ∙ is)) (record {
         chosen = (m.new.words, legal p m);
         keeps = keeps m;
         meshes = refl;
@@ -261,13 +267,32 @@ module _ (plan : Plan) (olds news : List Peer) (mail : List (Vec Letter Global))
           alike_does (peer_in plan p) now s.there (all_heard (list_at mail p.0)) (hears (neighbours plan p) h.inbound) s.there (M p m) [] h.alike ([], refl) s.hears_late in
           record {
             last = K p m;
-            played = subst (AfterRounds seat said (suc plan.rounds) (K p m)) (sym (ap (λ (x : Peer). x.refused.items) m.closes_so.rest)) (played m);
+            played = subst (AfterRounds seat said (suc plan.rounds) (K p m)) (sym (ap (λ (x : Peer T). x.refused.items) m.closes_so.rest)) (played m);
             closed = record {
               inbound = h.inbound;
               was_said = subst (λ (qs : List PeerNo). AllZip (λ q x. ComesAfter plan.rounds (said q) x) qs h.inbound) (sym (links_in plan p)) h.was_said;
               does = (s.there, [], s.shuts, subst (λ (qs : List PeerNo). Does (peer_in plan p) now (hears qs h.inbound) s.there (M p m) []) (sym (links_in plan p)) does, refl);
             };
           }
+
+  -- each peer is there, and its trace is in order
+  pub ended_in_order : (p : PeerNo) → p.0 < length plan.peers → (new : Peer T) × (slice_get news p.0 ≡ Some new) × AreInOrder new.router.trace
+  ended_in_order p below =
+      let m = ended p below in
+      (m.new, m.is, legal_in_order (exact seeded_word seeded_after) (peer_in plan p) (first_words plan p) m.new.router.trace m.new.words (legal p m))
+
+  -- each trace has grown by what came after the last round
+  pub grown : HaveGrown (trace_at olds) (trace_at news)
+  grown p = elim (cases_lt p.0 (length plan.peers)) [
+    | inl below ↦
+        let m = ended p below in
+        let now_is : trace_at news p ≡ M p m = trace_is news p m.new m.is in
+        let does = subst (λ (x : RulesPeer). Does x now (Stop ∷ all_heard (list_at mail p.0)) (K p m) (M p m) []) m.at.router m.closes_so.runs.does in
+        now_is
+        ∙ close_adds (peer_in plan p) now (list_at mail p.0) (K p m) (M p m) [] (freely p m) does (rounds_end (seat_in plan p) (said_so_far olds p) (suc plan.rounds) (K p m) m.old.refused.items m.at.played)
+        ∙ ap₂ (λ (I J : Entries). this_round I ++ J) (sym now_is) (sym (trace_is olds p m.old m.was))
+    | inr above ↦ let many = as_many (IsAt plan (suc plan.rounds) olds) plan olds at_end.each in nobody olds news p (omega (arith, above, many)) (omega (arith, above, many, closed.many))
+  ]
 
   pub ended_run : IsRun plan lives
   ended_run =

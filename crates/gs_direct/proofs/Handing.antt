@@ -16,7 +16,7 @@ use Rattle.gs_wire.proofs.Shorter.{stream_fits}
 use Rattle.gs_rules.specs.declared.trace.Entry.{Entry}
 use Rattle.gs_rules.specs.Tables.{Entries, up}
 use Rattle.gs_rules.specs.Saying.{Outgoing, gathered, out, outgoing}
-use Rattle.gs_rules.specs.Hearing.{ComesIn, Inbound, bytes_before, closes}
+use Rattle.gs_rules.specs.Hearing.{ComesIn, Inbound, bytes_before}
 use Rattle.gs_rules.specs.Rounds.{Todo, Hear, HearFault, HearGone, ending, hears_of, is_fault}
 use Rattle.gs_player.specs.Playing.{RpcsFit}
 use Rattle.gs_player.specs.Words.{StandsAfter}

@@ -1,9 +1,8 @@
 -- What a peer does in a round, call by call.
-use Rattle.std.proofs.Common.{◌≡◌, ◌≤◌, ◌<◌, ◌+◌, ℕ, List, [], ◌∷◌, ◌++◌, map, length, reverse, Some, Ok, Err, Result, refl, sym, ap, subst, ◌∙◌, append_assoc, append-nil, arith}
+use Rattle.std.proofs.Common.{◌≡◌, ◌<◌, ℕ, List, [], ◌∷◌, ◌++◌, map, Some, Ok, Err, Result, refl, sym, ap, subst, ◌∙◌, append_assoc, append-nil}
 use Rattle.std.specs.Prelude.{OnOk}
 use Rattle.std.specs.Result.{IsOk}
 use Rattle.std.specs.List.{AllByRecursion, AllZip}
-use Rattle.std.proofs.lemmas.List.{length-append}
 use Rattle.std.proofs.lemmas.Grind.{flat_map-append}
 use Rattle.gs_base.specs.declared.names.Millis.{Millis}
 use Rattle.gs_base.specs.declared.names.PeerNo.{PeerNo}
@@ -25,7 +24,7 @@ use Rattle.gs_player.proofs.Runs.{runs_then, told_runs}
 use Rattle.gs_direct.specs.declared.letter.Letter.{Letter}
 use Rattle.gs_direct.specs.declared.outlet.Outlet.{Outlet}
 use Rattle.gs_direct.specs.Letters.{all_heard, heard_of}
-use Rattle.gs_direct.specs.Outlets.{SaysAll, SaysSince, Within}
+use Rattle.gs_direct.specs.Outlets.{SaysAll, Within}
 
 -- what follows from a call that is done
 pub if_told : {T E : Type 0} (told : Result T E) (A B : Type 0) → (A → B) → OnOk told A → OnOk told B
@@ -66,30 +65,12 @@ round_runs now r heard lines old a b d e s sa sb sd se more told hears follows d
     let all = runs_then m now heard (behind_heard old.peer r now lines) old a e s sa se [] (more ++ []) hears rest in
     subst (λ (xs : List RefusedLine). Runs m now (heard ++ behind_heard old.peer r now lines) old s e se xs) (append-nil more) all
 
--- the trace only grows
-pub longer : (now : Millis) (todos : List Todo) (old new : RouterView) (s t : SeededState) (more : List RefusedLine) (told : ℕ)
-    → Runs (exact seeded_word seeded_after) now todos old s new t more
-    → told ≡ length old.trace
-    → told ≤ length new.trace
-longer now todos old new s t more told runs is =
-    let many : length new.trace ≡ length runs.appended.entries + length old.trace =
-    ap (λ (L : List Entry). length L) runs.appended.are ∙ length-append runs.appended.entries old.trace in
-    omega (arith, many, is)
-
 -- ---- to which neighbours
 
-still_within : (n : ℕ) (es : List Entry) (old new : List Outlet) → AllZip (SaysAll es) old new → AllByRecursion (Within n) old → AllByRecursion (Within n) new
+-- what is said goes to the same neighbours
+pub still_within : (n : ℕ) (es : List Entry) (old new : List Outlet) → AllZip (SaysAll es) old new → AllByRecursion (Within n) old → AllByRecursion (Within n) new
 still_within n es [] [] says within = tt
 still_within n es [] (y ∷ ys) says within = absurd says
 still_within n es (x ∷ xs) [] says within = absurd says
 still_within n es (x ∷ xs) (y ∷ ys) says within =
     (subst (λ (q : PeerNo). q.0 < n) (sym says.0.to) within.0, still_within n es xs ys says.1 within.1)
-
--- what is said goes to the same neighbours
-pub told_within : (n : ℕ) (now : Millis) (todos : List Todo) (u v : RouterView) (s t : SeededState) (more : List RefusedLine) (old new : List Outlet)
-    → Runs (exact seeded_word seeded_after) now todos u s v t more
-    → SaysSince (length u.trace) v.trace old new
-    → AllByRecursion (Within n) old
-    → AllByRecursion (Within n) new
-told_within n now todos u v s t more old new runs tells within =
-    still_within n (reverse runs.appended.entries) old new (tells u.trace runs.appended.entries refl runs.appended.are) within

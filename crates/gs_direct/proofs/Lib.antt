@@ -1,4 +1,5 @@
 pub mod Alone
+pub mod Rounding
 pub mod Rounds
 pub mod Arriving
 pub mod Handing
@@ -7,6 +8,7 @@ pub mod Turning
 pub mod Closing
 pub mod Carrying
 pub mod Loops
+pub mod Observing
 pub mod Times
 pub mod Telling
 pub mod Pairs

@@ -62,7 +62,7 @@ outlets_to (q ∷ qs) (o ∷ outlets) h = ap₂ (λ (r : PeerNo) (rs : List Peer
 outlets_to [] (o ∷ outlets) h = absurd h
 outlets_to (q ∷ qs) [] h = absurd h
 
-one_begins : (plan : Plan) (peers : List Peer) (p : PeerNo) (peer : Peer) → IsNewPeer plan p peer → IsAt plan 0 peers p peer
+one_begins : {T : Type 0} → (plan : Plan) (peers : List (Peer T)) (p : PeerNo) (peer : Peer T) → IsNewPeer plan p peer → IsAt plan 0 peers p peer
 one_begins plan peers p peer is =
     let empty : peer.router.trace ≡ [] = ap (λ (v : RouterView). v.trace) is.router in
     record {
@@ -77,7 +77,7 @@ one_begins plan peers p peer is =
       ready = subst (λ (L : Entries). AllByRecursion (IsReady 0 L) peer.outlets.items) (sym empty) (outlets_ready (neighbours plan p) peer.outlets.items is.outlets);
     }
 
-pub all_begin : (plan : Plan) (peers : List Peer) (mail : List (Vec Letter Global)) → AllZip (IsNewPeer plan) (numbers plan) peers → IsRoomFor plan mail → AreAt plan 0 peers mail
+pub all_begin : {T : Type 0} → (plan : Plan) (peers : List (Peer T)) (mail : List (Vec Letter Global)) → AllZip (IsNewPeer plan) (numbers plan) peers → IsRoomFor plan mail → AreAt plan 0 peers mail
 all_begin plan peers mail new room = record {
   each = each_kept (IsNewPeer plan) (IsAt plan 0 peers) (λ p peer is. one_begins plan peers p peer is) (numbers plan) peers new;
   boxes = room.0;
@@ -86,12 +86,12 @@ all_begin plan peers mail new room = record {
 
 -- ---- lists of peers
 
-set_same : (peers : List Peer) (n : ℕ) (peer : Peer) → n < length peers → slice_get (set peers n peer) n ≡ Some peer
+set_same : {T : Type 0} → (peers : List (Peer T)) (n : ℕ) (peer : Peer T) → n < length peers → slice_get (set peers n peer) n ≡ Some peer
 set_same [] n peer below = absurd (omega (arith, below))
 set_same (x ∷ peers) zero peer below = refl
 set_same (x ∷ peers) (suc n) peer below = set_same peers n peer (omega (arith, below))
 
-set_other : (peers : List Peer) (n k : ℕ) (peer : Peer) → k ≢ n → slice_get (set peers n peer) k ≡ slice_get peers k
+set_other : {T : Type 0} → (peers : List (Peer T)) (n k : ℕ) (peer : Peer T) → k ≢ n → slice_get (set peers n peer) k ≡ slice_get peers k
 set_other [] n k peer apart = refl
 set_other (x ∷ peers) zero zero peer apart = absurd (apart refl)
 set_other (x ∷ peers) zero (suc k) peer apart = refl
@@ -133,7 +133,7 @@ all_taken mail count n many taken = elim (lt_or_le n count) [
 
 -- ---- what each is given
 
-arrived_fit : (dials : List Dial) (r : ℕ) (peers : List Peer) (p : PeerNo) (n : ℕ) (letters : List Letter) → ArriveFrom dials r peers p n letters → LettersFit letters
+arrived_fit : {T : Type 0} → (dials : List Dial) (r : ℕ) (peers : List (Peer T)) (p : PeerNo) (n : ℕ) (letters : List Letter) → ArriveFrom dials r peers p n letters → LettersFit letters
 arrived_fit dials r peers p zero letters none = subst LettersFit (sym none) tt
 arrived_fit dials r peers p (suc n) letters (before, last, earlier, is, mine) =
     subst LettersFit (sym is) (both before last (arrived_fit dials r peers p n before earlier) (by (are_joined dials p (peer_no n)) mine))
@@ -146,7 +146,7 @@ arrived_fit dials r peers p (suc n) letters (before, last, earlier, is, mine) =
     by true delivers = delivers.fit
     by false none = subst LettersFit (sym none) tt
 
-letters_fit : (plan : Plan) (r : ℕ) (peers : List Peer) (p : PeerNo) (letters : List Letter) → Arrive plan r peers p letters → LettersFit letters
+letters_fit : {T : Type 0} → (plan : Plan) (r : ℕ) (peers : List (Peer T)) (p : PeerNo) (letters : List Letter) → Arrive plan r peers p letters → LettersFit letters
 letters_fit plan zero peers p letters none = subst LettersFit (sym none) tt
 letters_fit plan (suc r) peers p letters arrive = arrived_fit plan.dials r peers p (length plan.peers) letters arrive
 
@@ -155,7 +155,7 @@ within_all : (count : ℕ) (outlets : List Outlet) → AllByRecursion (λ (q : P
 within_all count [] h = tt
 within_all count (o ∷ outlets) h = (h.0, within_all count outlets h.1)
 
-runs_at : (plan : Plan) (r : ℕ) (now : Millis) (peers : List Peer) (p : PeerNo) (peer : Peer) → pred r * plan.round_ms ≤ now.0 → IsAt plan r peers p peer → IsRunning now peer.router
+runs_at : {T : Type 0} → (plan : Plan) (r : ℕ) (now : Millis) (peers : List (Peer T)) (p : PeerNo) (peer : Peer T) → pred r * plan.round_ms ≤ now.0 → IsAt plan r peers p peer → IsRunning now peer.router
 runs_at plan r now peers p peer late at = record {
   running = at.running;
   time = (let time = at.time in omega (arith, late, time));
@@ -163,35 +163,35 @@ runs_at plan r now peers p peer late at = record {
 }
 
 -- A peer that is next.
-pub record IsNext (plan : Plan) (r : ℕ) (olds : List Peer) (mail : List (Vec Letter Global)) (news : List Peer) (n : ℕ) : Type 0 where
-  pub old : Peer
+pub record IsNext {T : Type 0} (plan : Plan) (r : ℕ) (olds : List (Peer T)) (mail : List (Vec Letter Global)) (news : List (Peer T)) (n : ℕ) : Type 0 where
+  pub old : Peer T
   pub was : slice_get olds n ≡ Some old
   pub is : slice_get news n ≡ Some old
   pub at : IsAt plan r olds (peer_no n) old
   pub fit : LettersFit (list_at mail n)
 
-pub next_of : (plan : Plan) (r : ℕ) (olds news : List Peer) (mail : List (Vec Letter Global)) (n : ℕ) → AreAt plan r olds mail → n < length plan.peers → slice_get news n ≡ slice_get olds n → IsNext plan r olds mail news n
+pub next_of : {T : Type 0} → (plan : Plan) (r : ℕ) (olds news : List (Peer T)) (mail : List (Vec Letter Global)) (n : ℕ) → AreAt plan r olds mail → n < length plan.peers → slice_get news n ≡ slice_get olds n → IsNext plan r olds mail news n
 next_of plan r olds news mail n before below same =
     let (old, was, at) = at_number (IsAt plan r olds) plan (peer_no n) olds below before.each in
     record { old = old; was = was; is = same ∙ was; at = at; fit = letters_fit plan r olds (peer_no n) (list_at mail n) (before.letters (peer_no n) below) }
 
-module _ (plan : Plan) (r : ℕ) (olds news : List Peer) (mail : List (Vec Letter Global)) (n : ℕ) (next : IsNext plan r olds mail news n) where
-  pub there : (d : Peer) (index : ℕ) → index ≡ n → get_or news index d ≡ next.old
+module _ {T : Type 0} (plan : Plan) (r : ℕ) (olds news : List (Peer T)) (mail : List (Vec Letter Global)) (n : ℕ) (next : IsNext plan r olds mail news n) where
+  pub there : (d : Peer T) (index : ℕ) → index ≡ n → get_or news index d ≡ next.old
   there d index same = ap (λ (k : ℕ). get_or news k d) same ∙ get_or_from_slice_get news n next.old d next.is
 
-  pub next_runs : (now : Millis) (d : Peer) (index : ℕ) → index ≡ n → pred r * plan.round_ms ≤ now.0 → IsRunning now (get_or news index d).router
-  next_runs now d index same late = subst (λ (x : Peer). IsRunning now x.router) (sym (there d index same)) (runs_at plan r now olds (peer_no n) next.old late next.at)
+  pub next_runs : (now : Millis) (d : Peer T) (index : ℕ) → index ≡ n → pred r * plan.round_ms ≤ now.0 → IsRunning now (get_or news index d).router
+  next_runs now d index same late = subst (λ (x : Peer T). IsRunning now x.router) (sym (there d index same)) (runs_at plan r now olds (peer_no n) next.old late next.at)
 
-  pub next_within : (count : ℕ) (d : Peer) (index : ℕ) → index ≡ n → count ≡ length plan.peers → AllByRecursion (Within count) (get_or news index d).outlets.items
+  pub next_within : (count : ℕ) (d : Peer T) (index : ℕ) → index ≡ n → count ≡ length plan.peers → AllByRecursion (Within count) (get_or news index d).outlets.items
   next_within count d index same many =
-      subst (λ (x : Peer). AllByRecursion (Within count) x.outlets.items) (sym (there d index same))
+      subst (λ (x : Peer T). AllByRecursion (Within count) x.outlets.items) (sym (there d index same))
       (within_all count next.old.outlets.items
       (subst (AllByRecursion (λ (q : PeerNo). q.0 < count)) (sym next.at.links)
       (each_weaker (IsJoined plan (peer_no n)) (λ (q : PeerNo). q.0 < count) (λ q joined. subst (λ (k : ℕ). q.0 < k) (sym many) joined.0) (neighbours plan (peer_no n)) (neighbours_joined plan (peer_no n)))))
 
 -- ---- a round, peer by peer
 
-pub none_played : (plan : Plan) (r : ℕ) (now : Millis) (olds : List Peer) (mail next : List (Vec Letter Global)) → AreAt plan r olds mail → IsRoomFor plan next → HavePlayed r now olds mail 0 olds mail next
+pub none_played : {T : Type 0} → (plan : Plan) (r : ℕ) (now : Millis) (olds : List (Peer T)) (mail next : List (Vec Letter Global)) → AreAt plan r olds mail → IsRoomFor plan next → HavePlayed r now olds mail 0 olds mail next
 none_played plan r now olds mail next before room = record {
   many = refl;
   boxes = refl;
@@ -202,21 +202,21 @@ none_played plan r now olds mail next before room = record {
   gives = λ p. room.1 p.0;
 }
 
-turn_stays : (r : ℕ) (now : Millis) (olds news news' : List Peer) (mail : List (Vec Letter Global)) (k : ℕ) (gives : PeerNo → List Letter) → slice_get news' k ≡ slice_get news k → TurnsAt r now olds news mail k gives → TurnsAt r now olds news' mail k gives
+turn_stays : {T : Type 0} → (r : ℕ) (now : Millis) (olds news news' : List (Peer T)) (mail : List (Vec Letter Global)) (k : ℕ) (gives : PeerNo → List Letter) → slice_get news' k ≡ slice_get news k → TurnsAt r now olds news mail k gives → TurnsAt r now olds news' mail k gives
 turn_stays r now olds news news' mail k gives same t = record { old = t.old; new = t.new; was = t.was; is = same ∙ t.is; turns = t.turns }
 
-given_stays : (r : ℕ) (now : Millis) (olds news news' : List Peer) (mail : List (Vec Letter Global)) (p : PeerNo) (n : ℕ) (letters : List Letter) → ((k : ℕ) → k < n → slice_get news' k ≡ slice_get news k) → GivenTo r now olds news mail p n letters → GivenTo r now olds news' mail p n letters
+given_stays : {T : Type 0} → (r : ℕ) (now : Millis) (olds news news' : List (Peer T)) (mail : List (Vec Letter Global)) (p : PeerNo) (n : ℕ) (letters : List Letter) → ((k : ℕ) → k < n → slice_get news' k ≡ slice_get news k) → GivenTo r now olds news mail p n letters → GivenTo r now olds news' mail p n letters
 given_stays r now olds news news' mail p zero letters same none = none
 given_stays r now olds news news' mail p (suc n) letters same (before, gives, rest, turn, is) =
     (before, gives, given_stays r now olds news news' mail p n before (λ k below. same k (omega (arith, below))) rest, turn_stays r now olds news news' mail n gives (same n (omega arith)) turn, is)
 
 -- what one more peer has done and given
-pub record PlaysNext (r : ℕ) (now : Millis) (letters : List Letter) (old new : Peer) (before after : List (Vec Letter Global)) : Type 0 where
+pub record PlaysNext {T : Type 0} (r : ℕ) (now : Millis) (letters : List Letter) (old new : Peer T) (before after : List (Vec Letter Global)) : Type 0 where
   pub gives : PeerNo → List Letter
   pub turns : Turns r now letters old new gives
   pub adds : (p : PeerNo) → list_at after p.0 ≡ list_at before p.0 ++ gives p
 
-pub one_played : (plan : Plan) (r : ℕ) (now : Millis) (olds news : List Peer) (mail mail' next mail'' next' : List (Vec Letter Global)) (n index : ℕ) (d new : Peer)
+pub one_played : {T : Type 0} → (plan : Plan) (r : ℕ) (now : Millis) (olds news : List (Peer T)) (mail mail' next mail'' next' : List (Vec Letter Global)) (n index : ℕ) (d new : Peer T)
     → AreAt plan r olds mail
     → HavePlayed r now olds mail n news mail' next
     → n < length plan.peers
@@ -227,7 +227,7 @@ pub one_played : (plan : Plan) (r : ℕ) (now : Millis) (olds news : List Peer) 
     → list_at mail'' n ≡ []
     → ((k : ℕ) → k ≢ n → list_at mail'' k ≡ list_at mail' k)
     → HavePlayed r now olds mail (n + 1) (set news index new) mail'' next'
-one_played plan r now olds news mail mail' next mail'' next' n index d new before h below same plays places boxes taken others =
+one_played {T} plan r now olds news mail mail' next mail'' next' n index d new before h below same plays places boxes taken others =
     let one = next_of plan r olds news mail n before below (h.left n (omega arith)) in
     let many : length olds ≡ length plan.peers = as_many (IsAt plan r olds) plan olds before.each in
     let low : n < length news = omega (arith, below, many, h.many) in
@@ -237,7 +237,7 @@ one_played plan r now olds news mail mail' next mail'' next' n index d new befor
       new = new;
       was = one.was;
       is = there_is;
-      turns = subst₂ (λ (letters : List Letter) (x : Peer). Turns r now letters x new plays.gives) (h.waits n (omega arith)) (there plan r olds news mail n one d index same) plays.turns;
+      turns = subst₂ (λ (letters : List Letter) (x : Peer T). Turns r now letters x new plays.gives) (h.waits n (omega arith)) (there plan r olds news mail n one d index same) plays.turns;
     } in
     let rest : (k : ℕ) → k ≢ n → slice_get (set news index new) k ≡ slice_get news k = λ k apart. ap (λ (i : ℕ). slice_get (set news i new) k) same ∙ set_other news n k new apart in
     record {
@@ -259,10 +259,10 @@ one_played plan r now olds news mail mail' next mail'' next' n index d new befor
 
 -- ---- the end, peer by peer
 
-closed_stays : (now : Millis) (olds news news' : List Peer) (mail : List (Vec Letter Global)) (k : ℕ) → slice_get news' k ≡ slice_get news k → ClosesAt now olds mail k news → ClosesAt now olds mail k news'
+closed_stays : {T : Type 0} → (now : Millis) (olds news news' : List (Peer T)) (mail : List (Vec Letter Global)) (k : ℕ) → slice_get news' k ≡ slice_get news k → ClosesAt now olds mail k news → ClosesAt now olds mail k news'
 closed_stays now olds news news' mail k same c = record { old = c.old; new = c.new; was = c.was; is = same ∙ c.is; closes_so = c.closes_so }
 
-pub one_closed : (plan : Plan) (r : ℕ) (now : Millis) (olds news : List Peer) (mail : List (Vec Letter Global)) (letters : List Letter) (n index : ℕ) (d new : Peer)
+pub one_closed : {T : Type 0} → (plan : Plan) (r : ℕ) (now : Millis) (olds news : List (Peer T)) (mail : List (Vec Letter Global)) (letters : List Letter) (n index : ℕ) (d new : Peer T)
     → AreAt plan r olds mail
     → HaveClosed now olds mail n news
     → n < length plan.peers
@@ -270,7 +270,7 @@ pub one_closed : (plan : Plan) (r : ℕ) (now : Millis) (olds news : List Peer) 
     → letters ≡ list_at mail n
     → Closes now letters (get_or news index d) new
     → HaveClosed now olds mail (n + 1) (set news index new)
-one_closed plan r now olds news mail letters n index d new before h below same mine closes =
+one_closed {T} plan r now olds news mail letters n index d new before h below same mine closes =
     let one = next_of plan r olds news mail n before below (h.left n (omega arith)) in
     let many : length olds ≡ length plan.peers = as_many (IsAt plan r olds) plan olds before.each in
     let low : n < length news = omega (arith, below, many, h.many) in
@@ -279,7 +279,7 @@ one_closed plan r now olds news mail letters n index d new before h below same m
       new = new;
       was = one.was;
       is = ap (λ (i : ℕ). slice_get (set news i new) n) same ∙ set_same news n new low;
-      closes_so = subst₂ (λ (ls : List Letter) (x : Peer). Closes now ls x new) mine (there plan r olds news mail n one d index same) closes;
+      closes_so = subst₂ (λ (ls : List Letter) (x : Peer T). Closes now ls x new) mine (there plan r olds news mail n one d index same) closes;
     } in
     let rest : (k : ℕ) → k ≢ n → slice_get (set news index new) k ≡ slice_get news k = λ k apart. ap (λ (i : ℕ). slice_get (set news i new) k) same ∙ set_other news n k new apart in
     record {

@@ -1,11 +1,10 @@
 -- What an outlet says, entry by entry and outlet by outlet.
-use Rattle.std.proofs.Common.{◌≡◌, ◌-◌, ℕ, Bool, true, false, if◌then◌else◌, List, [], ◌∷◌, ◌++◌, length, map, take, drop, reverse, Option, None, Some, Result, Ok, Err, refl, sym, ap, ap₂, subst, subst₂, ◌∙◌, append_assoc, append-nil}
+use Rattle.std.proofs.Common.{◌≡◌, ℕ, Bool, true, false, if◌then◌else◌, List, [], ◌∷◌, ◌++◌, length, map, reverse, Option, None, Some, Result, Ok, Err, refl, sym, ap, ap₂, subst, subst₂, ◌∙◌, append_assoc, append-nil}
 use Rattle.std.specs.Prelude.{◌≢◌, OnOk, Vec}
-use Rattle.std.specs.List.{AllZip}
 use Rattle.std.specs.declared.alloc.Global.{Global}
 use Rattle.std.proofs.lemmas.Bool.{eqb-true, eqb-false}
 use Rattle.std.proofs.lemmas.Grind.{flat_map-append}
-use Rattle.std.proofs.lemmas.List.{reverse-append, take_rest}
+use Rattle.std.proofs.lemmas.List.{reverse-append}
 use Rattle.gs_base.specs.declared.names.PeerNo.{PeerNo}
 use Rattle.gs_base.specs.declared.rpc.Rpc.{Rpc}
 use Rattle.gs_base.specs.Names.{same_peer}
@@ -22,13 +21,15 @@ use Rattle.gs_rules.specs.Tables.{Entries, cuts_off, up, up_after}
 use Rattle.gs_rules.specs.Saying.{Outgoing, behind_entry, behind_event, cut_out, is_cut, outgoing, raw_to, saying, sending, sending_all, sign}
 use Rattle.gs_rules.specs.Legal.{Legal}
 use Rattle.gs_rules.specs.Peers.{Peer}
-use Rattle.gs_rules.proofs.Fitting.{fits_drop, fits_reverse, fits_take, legal_written}
+use Rattle.gs_rules.proofs.Fitting.{fits_drop, fits_reverse, legal_written}
 use Rattle.gs_rules.proofs.Gathered.{uncut_raw, uncut_sign}
 use Rattle.gs_seats.specs.ListsByPeer.{list_at}
-use Rattle.gs_player.proofs.Since.{seen_as, since}
+use Rattle.gs_router.specs.Log.{ends_round, since_end, this_round}
+use Rattle.gs_router.proofs.Logging.{after_end, not_end}
+use Rattle.gs_player.proofs.Since.{newest}
 use Rattle.gs_direct.specs.declared.letter.Letter.{Letter}
 use Rattle.gs_direct.specs.declared.outlet.Outlet.{Outlet}
-use Rattle.gs_direct.specs.Outlets.{AllWritten, Carries, Follows, IsSilent, Says, SaysAll, SaysSince, Tells, given, letters_of}
+use Rattle.gs_direct.specs.Outlets.{AllWritten, Carries, Follows, IsSilent, Says, SaysAll, Tells, given, letters_of}
 use Rattle.gs_direct.proofs.Carrying.{follows_as, follows_then}
 
 -- what follows where a call succeeds
@@ -145,15 +146,28 @@ says_more es e old mid new h k = record {
     newest : (K : Entries) → reverse (es ++ e ∷ []) ++ K ≡ e ∷ (reverse es ++ K)
     newest K = ap (λ (xs : List Entry). xs ++ K) (reverse-append es (e ∷ []))
 
--- what came after the first `told` entries is written
-pub written_since : (p : Peer) (told : ℕ) (all : List Entry) (L : Entries) → reverse all ≡ L → Legal p L → AllWritten (take (length all - told) (drop told all))
-written_since p told all L is legal =
-    subst (λ (entries : List Entry). AllWritten (take (length all - told) (drop told entries))) (sym (seen_as all L is))
-    (fits_take (length all - told) (drop told (reverse L)) (fits_drop told (reverse L) (fits_reverse L (legal_written p L legal))))
+-- a trace is the round in which it is, after what came before
+abbrev HasSince : Entries → Type 0
+HasSince L = (rest : Entries) × (L ≡ since_end L ++ rest)
 
--- it is said
-pub says_since : (told : ℕ) (all : List Entry) (L : Entries) (old new : List Outlet) → reverse all ≡ L → AllZip (SaysAll (take (length all - told) (drop told all))) old new → SaysSince told L old new
-says_since told all L old new seen says = λ K es counted is. subst (λ (xs : List Entry). AllZip (SaysAll xs) old new) (take_rest all told ∙ since told all es K L seen is counted) says
+since_part_of : (e : Entry) (L : Entries) → HasSince L → (ends : Bool) → ends_round e.event ≡ ends → HasSince (e ∷ L)
+since_part_of e L before true is = (e ∷ L, sym (ap (λ (M : Entries). M ++ e ∷ L) (after_end (e ∷ since_end L) e.event is)))
+since_part_of e L (rest, whole) false is =
+    (rest, ap (λ (M : Entries). e ∷ M) whole ∙ sym (ap (λ (M : Entries). M ++ rest) (not_end (λ r. []) (e ∷ since_end L) e.event is)))
+
+since_part : (L : Entries) → HasSince L
+since_part [] = ([], refl)
+since_part (e ∷ L) = since_part_of e L (since_part L) (ends_round e.event) refl
+
+round_part : (L : Entries) → (rest : Entries) × (L ≡ this_round L ++ rest)
+round_part [] = ([], refl)
+round_part (e ∷ L) = let (rest, whole) = since_part L in (rest, ap (λ (M : Entries). e ∷ M) whole)
+
+-- what a legal trace says in a round is written
+pub written_round : (p : Peer) (L : Entries) → Legal p L → AllWritten (reverse (this_round L))
+written_round p L legal =
+    let (rest, whole) = round_part L in
+    subst AllWritten (newest rest L (this_round L) whole) (fits_drop (length rest) (reverse L) (fits_reverse L (legal_written p L legal)))
 
 -- ---- letters
 

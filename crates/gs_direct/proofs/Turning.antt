@@ -1,10 +1,11 @@
 -- Once all peers have played a round, they stand after it.
-use Rattle.std.proofs.Common.{◌≡◌, ◌≤◌, ◌<◌, ◌*◌, ℕ, zero, suc, pred, Bool, true, false, List, [], ◌∷◌, ◌++◌, length, reverse, Option, Some, inl, inr, refl, sym, ap, subst, subst₂, ◌∙◌, arith, true≢false, eq-or-lt_of_le, le_of_suc-le-suc}
+use Rattle.std.proofs.Common.{◌≡◌, ◌≤◌, ◌<◌, ◌*◌, ℕ, zero, suc, pred, Bool, true, false, List, [], ◌∷◌, ◌++◌, length, reverse, Option, Some, inl, inr, refl, sym, ap, ap₂, subst, subst₂, ◌∙◌, arith, true≢false, eq-or-lt_of_le, le_of_suc-le-suc}
 use Rattle.std.specs.Prelude.{option_map, unwrap_or, slice_get, Vec}
 use Rattle.std.specs.List.{AllByRecursion, AllZip}
 use Rattle.std.specs.declared.alloc.Global.{Global}
 use Rattle.std.proofs.lemmas.List.{append_cancel_right}
-use Rattle.std.proofs.lemmas.Option.{same_Some}
+use Rattle.std.proofs.lemmas.Bool.{cases_lt}
+use Rattle.std.proofs.lemmas.Option.{same_Some, slice_get_past}
 use Rattle.gs_base.specs.declared.names.PeerNo.{PeerNo}
 use Rattle.gs_base.specs.declared.names.Millis.{Millis}
 use Rattle.gs_base.specs.Names.{same_peer}
@@ -22,10 +23,11 @@ use Rattle.gs_rules.specs.Modes.{exact}
 use Rattle.gs_rules.specs.Legal.{Legal, LegalOn}
 use Rattle.gs_rules.specs.Saying.{out}
 use Rattle.gs_rules.specs.Hearing.{ComesIn}
-use Rattle.gs_rules.specs.Rounds.{AfterRounds, Does, Playing, Plays, Seat, Todo, agenda, hears, moment_of}
+use Rattle.gs_rules.specs.Rounds.{AfterRounds, Does, Playing, Plays, Seat, Todo, hears, moment_of}
 use Rattle.gs_rules.proofs.Each.{each_weaker}
 use Rattle.gs_rules.proofs.Gathered.{gathered_after_rounds}
 use Rattle.gs_rules.proofs.Handled.{GoesOn, StandsOnce, distinct_once, does_on}
+use Rattle.gs_router.specs.Log.{this_round}
 use Rattle.gs_seats.specs.ListsByPeer.{list_at}
 use Rattle.gs_seats.specs.Rounds.{first_words, lines_in, neighbours, peer_in, peer_no, seat_in}
 use Rattle.gs_seats.proofs.ByNumber.{as_many, at_number, zip_by_number}
@@ -44,17 +46,19 @@ use Rattle.gs_direct.specs.declared.letter.Letter.{Letter}
 use Rattle.gs_direct.specs.declared.outlet.Outlet.{Outlet}
 use Rattle.gs_direct.specs.declared.peer.Peer.{Peer}
 use Rattle.gs_direct.specs.Letters.{all_heard}
+use Rattle.gs_direct.specs.Observing.{HaveGrown}
 use Rattle.gs_direct.specs.Outlets.{IsHandedOver, SaysAll, given, letters_of}
 use Rattle.gs_direct.specs.Runs.{AreAt, Arrive, ArriveFrom, Delivers, DeliversIf, GivenTo, HavePlayed, IsAt, IsReady, Turns, TurnsAt, said_so_far, trace_at}
 use Rattle.gs_direct.proofs.Arriving.{AreHeard, all_arrive, nothing_arrives, one_arrives}
 use Rattle.gs_direct.proofs.Giving.{each_second, each_third, given_none, given_once, tos, tos_zip}
 use Rattle.gs_direct.proofs.Handing.{Passes, delivers, ready_next}
+use Rattle.gs_direct.proofs.Rounding.{round_adds, rounds_end}
 use Rattle.gs_direct.proofs.Rounds.{IsAmongPeers, alike_append, alike_does, alike_same, ended_is_down}
 
 -- ---- a peer's trace
 
-pub trace_is : (peers : List Peer) (q : PeerNo) (peer : Peer) → slice_get peers q.0 ≡ Some peer → trace_at peers q ≡ peer.router.trace
-trace_is peers q peer at = ap (λ (found : Option Peer). unwrap_or (option_map (λ (x : Peer). x.router.trace) found) []) at
+pub trace_is : {T : Type 0} → (peers : List (Peer T)) (q : PeerNo) (peer : Peer T) → slice_get peers q.0 ≡ Some peer → trace_at peers q ≡ peer.router.trace
+trace_is {T} peers q peer at = ap (λ (found : Option (Peer T)). unwrap_or (option_map (λ (x : Peer T). x.router.trace) found) []) at
 
 -- ---- who has an outlet
 
@@ -84,9 +88,16 @@ none_apart plan p q apart = each_weaker (IsJoined plan p) (λ (s : PeerNo). same
     by s joined false is = is
     by s joined true is = absurd (true≢false (sym joined ∙ ap (are_joined plan.dials p) (is_same s q is) ∙ apart))
 
+-- a peer that is not there does nothing
+pub nobody : {T : Type 0} → (olds news : List (Peer T)) (p : PeerNo) → length olds ≤ p.0 → length news ≤ p.0 → trace_at news p ≡ this_round (trace_at news p) ++ trace_at olds p
+nobody {T} olds news p before after =
+    let none : (peers : List (Peer T)) → length peers ≤ p.0 → trace_at peers p ≡ [] =
+    λ peers above. ap (λ (found : Option (Peer T)). unwrap_or (option_map (λ (x : Peer T). x.router.trace) found) []) (slice_get_past peers p.0 above) in
+    none news after ∙ sym (ap₂ (λ (M N : Entries). this_round M ++ N) (none news after) (none olds before))
+
 -- ---- a round of all peers
 
-module _ (plan : Plan) (r : ℕ) (olds news : List Peer) (mail mail' next : List (Vec Letter Global))
+module _ {T : Type 0} (plan : Plan) (r : ℕ) (olds news : List (Peer T)) (mail mail' next : List (Vec Letter Global))
     (before : AreAt plan r olds mail)
     (played : HavePlayed r (moment_of (seat_in plan (peer_no 0)) (Playing r)) olds mail (length plan.peers) news mail' next) where
   abbrev now : Millis
@@ -102,8 +113,8 @@ module _ (plan : Plan) (r : ℕ) (olds news : List Peer) (mail mail' next : List
 
   -- A peer, before and after the round.
   record Moved (p : PeerNo) : Type 0 where
-    old : Peer
-    new : Peer
+    old : Peer T
+    new : Peer T
     gives : PeerNo → List Letter
     was : slice_get olds p.0 ≡ Some old
     is : slice_get news p.0 ≡ Some new
@@ -122,7 +133,7 @@ module _ (plan : Plan) (r : ℕ) (olds news : List Peer) (mail mail' next : List
         was = was;
         is = turn.is;
         at = at;
-        turns = subst (λ (x : Peer). Turns r now (list_at mail p.0) x turn.new gives) same turn.turns;
+        turns = subst (λ (x : Peer T). Turns r now (list_at mail p.0) x turn.new gives) same turn.turns;
       }
 
   module _ (p : PeerNo) (m : Moved p) where
@@ -136,7 +147,7 @@ module _ (plan : Plan) (r : ℕ) (olds news : List Peer) (mail mail' next : List
     L = m.turns.played.router.trace
 
     new_trace : m.new.router.trace ≡ L
-    new_trace = ap (λ (x : Peer). x.router.trace) m.turns.rest
+    new_trace = ap (λ (x : Peer T). x.router.trace) m.turns.rest
 
     goes_on : GoesOn K L
     goes_on = does_on m.old.router.peer now (all_heard (list_at mail p.0) ++ behind_heard m.old.router.peer r now m.old.agenda) K L m.turns.plays.more m.turns.plays.runs.does
@@ -231,8 +242,15 @@ module _ (plan : Plan) (r : ℕ) (olds news : List Peer) (mail mail' next : List
       handing = handing;
     }
 
+    -- the round is what was added
+    added : L p m ≡ this_round (L p m) ++ K p m
+    added = round_adds r (K p m) (L p m) round (rounds_end (seat p m) said r (K p m) m.old.refused.items played_before)
+
+    round_is : this_round (L p m) ≡ (goes_on p m).0
+    round_is = append_cancel_right (this_round (L p m)) (goes_on p m).0 (K p m) (sym added ∙ (goes_on p m).1)
+
     says_all : AllZip (SaysAll (reverse (goes_on p m).0)) m.old.outlets.items m.turns.played.outlets.items
-    says_all = m.turns.plays.tells (K p m) (goes_on p m).0 refl (goes_on p m).1
+    says_all = subst (λ (es : List Entry). AllZip (SaysAll (reverse es)) m.old.outlets.items m.turns.played.outlets.items) round_is m.turns.plays.tells
 
     -- any split of the trace is this one
     any_split : (o played' : Outlet) → SaysAll (reverse (goes_on p m).0) o played' → (entries : List Entry) → L p m ≡ entries ++ K p m → SaysAll (reverse entries) o played'
@@ -261,13 +279,13 @@ module _ (plan : Plan) (r : ℕ) (olds news : List Peer) (mail mail' next : List
     at_next : IsAt plan (suc r) news p m.new
     at_next =
         record {
-          number = ap (λ (x : Peer). x.number) m.turns.rest ∙ number_is;
-          agenda = ap (λ (x : Peer). x.agenda) m.turns.rest ∙ m.turns.plays.agenda ∙ m.at.agenda;
-          router = ap (λ (x : Peer). x.router.peer) m.turns.rest ∙ m.turns.plays.runs.peer ∙ m.at.router;
-          running = ap (λ (x : Peer). x.router.is_stopped) m.turns.rest ∙ m.turns.plays.runs.runs_on.running;
+          number = ap (λ (x : Peer T). x.number) m.turns.rest ∙ number_is;
+          agenda = ap (λ (x : Peer T). x.agenda) m.turns.rest ∙ m.turns.plays.agenda ∙ m.at.agenda;
+          router = ap (λ (x : Peer T). x.router.peer) m.turns.rest ∙ m.turns.plays.runs.peer ∙ m.at.router;
+          running = ap (λ (x : Peer T). x.router.is_stopped) m.turns.rest ∙ m.turns.plays.runs.runs_on.running;
           time = subst (λ (M : Entries). last_moment M ≤ r * plan.round_ms) (sym (new_trace p m)) m.turns.plays.runs.runs_on.time;
-          legal = subst₂ (λ (M : Entries) (s : SeededState). LegalOn (exact seeded_word seeded_after) (peer_in plan p) (first_words plan p) [] M s) (sym (new_trace p m)) (sym (ap (λ (x : Peer). x.words) m.turns.rest)) legal;
-          played = subst₂ (λ (M : Entries) (lines : List RefusedLine). AfterRounds (seat_in plan p) said (suc r) M lines) (sym (new_trace p m)) (sym (ap (λ (x : Peer). x.refused.items) m.turns.rest ∙ m.turns.plays.refused)) played_now;
+          legal = subst₂ (λ (M : Entries) (s : SeededState). LegalOn (exact seeded_word seeded_after) (peer_in plan p) (first_words plan p) [] M s) (sym (new_trace p m)) (sym (ap (λ (x : Peer T). x.words) m.turns.rest)) legal;
+          played = subst₂ (λ (M : Entries) (lines : List RefusedLine). AfterRounds (seat_in plan p) said (suc r) M lines) (sym (new_trace p m)) (sym (ap (λ (x : Peer T). x.refused.items) m.turns.rest ∙ m.turns.plays.refused)) played_now;
           links = tos_zip IsHandedOver (λ o o' handing. handing.to) m.turns.played.outlets.items m.new.outlets.items m.turns.handed ∙ to_all;
           ready = subst (λ (M : Entries). AllByRecursion (IsReady (suc r) M) m.new.outlets.items) (sym (new_trace p m)) ready_all;
         }
@@ -288,7 +306,7 @@ module _ (plan : Plan) (r : ℕ) (olds news : List Peer) (mail mail' next : List
         was = was;
         is = turn.is;
         at = at;
-        turns = subst (λ (x : Peer). Turns r now (list_at mail q.0) x turn.new gives) same turn.turns;
+        turns = subst (λ (x : Peer T). Turns r now (list_at mail q.0) x turn.new gives) same turn.turns;
       } in
       (earlier, gives p, arrive p within n earlier (omega (arith, few)) rest, is, delivered_by p q within low m)
     where
@@ -317,3 +335,15 @@ module _ (plan : Plan) (r : ℕ) (olds news : List Peer) (mail mail' next : List
     boxes = played.places ∙ before.boxes;
     letters = λ p below. arrive p below (length plan.peers) (list_at next p.0) (omega arith) (played.gives p);
   }
+
+  -- each trace has grown by the round
+  pub grown : HaveGrown (trace_at olds) (trace_at news)
+  grown p = elim (cases_lt p.0 (length plan.peers)) [
+    | inl below ↦
+        let m = moved p below in
+        let now_is : trace_at news p ≡ L p m = trace_is news p m.new m.is ∙ new_trace p m in
+        now_is
+        ∙ added p below m
+        ∙ ap₂ (λ (M N : Entries). this_round M ++ N) (sym now_is) (sym (trace_is olds p m.old m.was))
+    | inr above ↦ nobody olds news p (omega (arith, above, as_many (IsAt plan r olds) plan olds before.each)) (omega (arith, above, many))
+  ]

@@ -1,4 +1,5 @@
 pub mod Letters
+pub mod Observing
 pub mod Outlets
 pub mod Peers
 pub mod Runs

@@ -1,6 +1,6 @@
 -- What an outlet knows about what goes to a neighbour, and what it hands over at the end of a round.
 use Rattle.std.specs.Prelude.{◌≡◌, ◌<◌, ℕ, Bool, true, false, ◌||◌, ◌&&◌, nat_eq, if◌then◌else◌, List, [], ◌∷◌, ◌++◌, length, reverse, Option, None, Some, IfSome, is_none, is_some, unwrap_or}
-use Rattle.std.specs.List.{flat_map, AllByRecursion, AllZip}
+use Rattle.std.specs.List.{flat_map, AllByRecursion}
 use Rattle.gs_base.specs.declared.names.PeerNo.{PeerNo}
 use Rattle.gs_base.specs.declared.rpc.Rpc.{Rpc}
 use Rattle.gs_base.specs.Names.{same_peer}
@@ -107,12 +107,6 @@ pub record SaysAll (entries : List Entry) (old new : Outlet) : Type 0 where
 pub record IsSilent (e : Entry) : Type 0 where
   pub sends : e.effects.sends ≡ []
   pub cuts : (q : PeerNo) → is_cut q e.event ≡ false
-
--- The neighbours are sent what a trace says after its first `told` entries.
-abbrev pub SaysSince : ℕ → Entries → List Outlet → List Outlet → Type 0
-SaysSince told L old new =
-    (K : Entries) (entries : List Entry)
-    → length K ≡ told → L ≡ entries ++ K → AllZip (SaysAll (reverse entries)) old new
 
 -- ---- the end of a round
 

@@ -1,5 +1,5 @@
 -- What a peer of a run does in a round, and at the end.
-use Rattle.std.specs.Prelude.{◌≡◌, ℕ, List, [], ◌∷◌, ◌++◌, length, Vec}
+use Rattle.std.specs.Prelude.{◌≡◌, ℕ, List, [], ◌∷◌, ◌++◌, reverse, Vec}
 use Rattle.std.specs.List.{AllZip}
 use Rattle.std.specs.declared.alloc.Global.{Global}
 use Rattle.gs_base.specs.declared.names.PeerNo.{PeerNo}
@@ -14,14 +14,16 @@ use Rattle.gs_report.specs.declared.finished.Finished.{Finished}
 use Rattle.gs_seats.specs.ListsByPeer.{list_at}
 use Rattle.gs_seats.specs.Rounds.{first_words, lines_in, neighbours}
 use Rattle.gs_seats.specs.Routers.{new_router}
+use Rattle.gs_router.specs.Log.{this_round}
 use Rattle.gs_player.specs.Playing.{Runs, behind_heard}
 use Rattle.gs_direct.specs.declared.letter.Letter.{Letter}
 use Rattle.gs_direct.specs.declared.peer.Peer.{Peer}
+use Rattle.gs_direct.specs.declared.peer.Remains.{Remains}
 use Rattle.gs_direct.specs.Letters.{all_heard}
-use Rattle.gs_direct.specs.Outlets.{IsHandedOver, IsNew, SaysSince, given}
+use Rattle.gs_direct.specs.Outlets.{IsHandedOver, IsNew, SaysAll, given}
 
 -- It is a peer of the plan that has done nothing.
-pub record IsNewPeer (plan : Plan) (p : PeerNo) (peer : Peer) : Type 0 where
+pub record IsNewPeer {T : Type 0} (plan : Plan) (p : PeerNo) (peer : Peer T) : Type 0 where
   pub number : peer.number ≡ p
   pub agenda : peer.agenda ≡ lines_in plan p
   pub router : peer.router ≡ new_router plan p
@@ -30,8 +32,8 @@ pub record IsNewPeer (plan : Plan) (p : PeerNo) (peer : Peer) : Type 0 where
   pub outlets : AllZip IsNew (neighbours plan p) peer.outlets.items
 
 -- It hears these letters and does everything else that it has to do in the round. Some lines are refused. Its neighbours are
--- sent what the new entries of its trace say.
-pub record PlaysRound (r : ℕ) (now : Millis) (letters : List Letter) (old new : Peer) : Type 0 where
+-- sent what the entries of the round say.
+pub record PlaysRound {T : Type 0} (r : ℕ) (now : Millis) (letters : List Letter) (old new : Peer T) : Type 0 where
   pub number : new.number ≡ old.number
   pub agenda : new.agenda ≡ old.agenda
   pub more : List RefusedLine
@@ -39,25 +41,29 @@ pub record PlaysRound (r : ℕ) (now : Millis) (letters : List Letter) (old new 
   pub runs : Runs (exact seeded_word seeded_after) now
       (all_heard letters ++ behind_heard old.router.peer r now old.agenda)
       old.router old.words new.router new.words more
-  pub tells : SaysSince (length old.router.trace) new.router.trace old.outlets.items new.outlets.items
+  pub tells : AllZip (SaysAll (reverse (this_round new.router.trace))) old.outlets.items new.outlets.items
 
 -- What its outlets have is handed over, and nothing else changes.
-pub record HandsOver (mail mail' : List (Vec Letter Global)) (old new : Peer) : Type 0 where
+pub record HandsOver {T : Type 0} (mail mail' : List (Vec Letter Global)) (old new : Peer T) : Type 0 where
   pub rest : new ≡ record old { outlets = new.outlets }
   pub given_is : (p : PeerNo) → list_at mail' p.0 ≡ list_at mail p.0 ++ given old.number old.outlets.items p
   pub handed : AllZip IsHandedOver old.outlets.items new.outlets.items
 
 -- It shuts down, and hears these letters late.
-pub record Closes (now : Millis) (letters : List Letter) (old new : Peer) : Type 0 where
+pub record Closes {T : Type 0} (now : Millis) (letters : List Letter) (old new : Peer T) : Type 0 where
   pub runs : Runs (exact seeded_word seeded_after) now (Stop ∷ all_heard letters)
       old.router old.words new.router new.words []
   pub rest : new ≡ record old { router = new.router; words = new.words }
 
 -- what a run leaves of the peer, with the scores at this moment
-abbrev pub left_of : Millis → Peer → Finished
+abbrev pub left_of : {T : Type 0} → Millis → Peer T → Finished
 left_of now peer = record {
   trace = peer.router.trace;
   refused = peer.refused.items;
   meshes = meshes_of peer.router.trace;
   scores = scores_of peer.router.peer peer.router.trace now.0;
 }
+
+-- what is left besides the trace
+abbrev pub remains_of : Finished → Remains
+remains_of life = record { refused = life.refused; meshes = life.meshes; scores = life.scores }

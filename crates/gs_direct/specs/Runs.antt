@@ -18,7 +18,7 @@ use Rattle.gs_rules.specs.Modes.{exact}
 use Rattle.gs_rules.specs.Legal.{LegalOn}
 use Rattle.gs_rules.specs.Saying.{out}
 use Rattle.gs_rules.specs.Hearing.{ComesIn, Inbound}
-use Rattle.gs_rules.specs.Rounds.{AfterRounds, Hear, hears_of, is_broken}
+use Rattle.gs_rules.specs.Rounds.{AfterRounds, Closing, Hear, hears_of, is_broken, moment_of}
 use Rattle.gs_seats.specs.ListsByPeer.{list_at}
 use Rattle.gs_seats.specs.Rounds.{first_words, lines_in, neighbours, numbers, peer_in, peer_no, seat_in}
 use Rattle.gs_player.specs.Ended.{whole}
@@ -34,11 +34,11 @@ use Rattle.gs_direct.specs.Peers.{Closes, PlaysRound, left_of}
 -- ---- what was said
 
 -- the trace of a peer so far; it is empty where no peer has the number
-abbrev pub trace_at : List Peer → PeerNo → Entries
-trace_at peers q = unwrap_or (option_map (λ (peer : Peer). peer.router.trace) (slice_get peers q.0)) []
+abbrev pub trace_at : {T : Type 0} → List (Peer T) → PeerNo → Entries
+trace_at {T} peers q = unwrap_or (option_map (λ (peer : Peer T). peer.router.trace) (slice_get peers q.0)) []
 
 -- what q has said to p so far
-abbrev pub said_so_far : List Peer → PeerNo → PeerNo → Said
+abbrev pub said_so_far : {T : Type 0} → List (Peer T) → PeerNo → PeerNo → Said
 said_so_far peers p q = out codec (trace_at peers q) p
 
 -- what is said ends in a round up to r: in a fault, or by a close
@@ -65,7 +65,7 @@ pub record IsReady (r : ℕ) (L : Entries) (o : Outlet) : Type 0 where
 -- ---- a peer
 
 -- After r rounds, a peer has kept them on what the others said so far, with its random words.
-pub record IsAt (plan : Plan) (r : ℕ) (peers : List Peer) (p : PeerNo) (peer : Peer) : Type 0 where
+pub record IsAt {T : Type 0} (plan : Plan) (r : ℕ) (peers : List (Peer T)) (p : PeerNo) (peer : Peer T) : Type 0 where
   pub number : peer.number ≡ p
   pub agenda : peer.agenda ≡ lines_in plan p
   pub router : peer.router.peer ≡ peer_in plan p
@@ -94,7 +94,7 @@ DeliversIf true r w q letters = Delivers r w q letters
 DeliversIf false r w q letters = letters ≡ []
 
 -- the letters for p from this number of first peers, one peer after the other
-abbrev pub ArriveFrom : List Dial → ℕ → List Peer → PeerNo → ℕ → List Letter → Type 0
+abbrev pub ArriveFrom : {T : Type 0} → List Dial → ℕ → List (Peer T) → PeerNo → ℕ → List Letter → Type 0
 ArriveFrom dials r peers p zero letters = letters ≡ []
 ArriveFrom dials r peers p (suc n) letters =
     (before : List Letter) × (last : List Letter)
@@ -103,7 +103,7 @@ ArriveFrom dials r peers p (suc n) letters =
     × DeliversIf (are_joined dials p (peer_no n)) r (said_so_far peers p (peer_no n)) (peer_no n) last
 
 -- the letters that a peer hears in a round; there are none in the first
-abbrev pub Arrive : Plan → ℕ → List Peer → PeerNo → List Letter → Type 0
+abbrev pub Arrive : {T : Type 0} → Plan → ℕ → List (Peer T) → PeerNo → List Letter → Type 0
 Arrive plan zero peers p letters = letters ≡ []
 Arrive plan (suc r) peers p letters = ArriveFrom plan.dials r peers p (length plan.peers) letters
 
@@ -118,7 +118,7 @@ IsRoomFor plan mail = (length mail ≡ length plan.peers) × IsEmpty mail
 -- ---- all peers
 
 -- After r rounds the peers are these, and the letters of the last one are on their way.
-pub record AreAt (plan : Plan) (r : ℕ) (peers : List Peer) (mail : List (Vec Letter Global)) : Type 0 where
+pub record AreAt {T : Type 0} (plan : Plan) (r : ℕ) (peers : List (Peer T)) (mail : List (Vec Letter Global)) : Type 0 where
   pub each : AllZip (IsAt plan r peers) (numbers plan) peers
   pub boxes : length mail ≡ length plan.peers
   pub letters : (p : PeerNo) → p.0 < length plan.peers → Arrive plan r peers p (list_at mail p.0)
@@ -126,24 +126,24 @@ pub record AreAt (plan : Plan) (r : ℕ) (peers : List Peer) (mail : List (Vec L
 -- ---- within a round
 
 -- A peer plays a round and hands over what it said: these letters to each peer.
-pub record Turns (r : ℕ) (now : Millis) (letters : List Letter) (old new : Peer) (gives : PeerNo → List Letter) : Type 0 where
-  pub played : Peer
+pub record Turns {T : Type 0} (r : ℕ) (now : Millis) (letters : List Letter) (old new : Peer T) (gives : PeerNo → List Letter) : Type 0 where
+  pub played : Peer T
   pub plays : PlaysRound r now letters old played
   pub rest : new ≡ record played { outlets = new.outlets }
   pub given_is : (p : PeerNo) → gives p ≡ given played.number played.outlets.items p
   pub handed : AllZip IsHandedOver played.outlets.items new.outlets.items
 
 -- the peer of this number has done that
-pub record TurnsAt (r : ℕ) (now : Millis) (olds news : List Peer) (mail : List (Vec Letter Global))
+pub record TurnsAt {T : Type 0} (r : ℕ) (now : Millis) (olds news : List (Peer T)) (mail : List (Vec Letter Global))
     (n : ℕ) (gives : PeerNo → List Letter) : Type 0 where
-  pub old : Peer
-  pub new : Peer
+  pub old : Peer T
+  pub new : Peer T
   pub was : slice_get olds n ≡ Some old
   pub is : slice_get news n ≡ Some new
   pub turns : Turns r now (list_at mail n) old new gives
 
 -- this number of first peers have done that, and these are the letters that they gave to p
-abbrev pub GivenTo : ℕ → Millis → (olds news : List Peer) → List (Vec Letter Global)
+abbrev pub GivenTo : {T : Type 0} → ℕ → Millis → (olds news : List (Peer T)) → List (Vec Letter Global)
     → PeerNo → ℕ → List Letter → Type 0
 GivenTo r now olds news mail p zero letters = letters ≡ []
 GivenTo r now olds news mail p (suc n) letters =
@@ -153,8 +153,8 @@ GivenTo r now olds news mail p (suc n) letters =
     × (letters ≡ before ++ gives p)
 
 -- The first n peers have played a round, and the others have not.
-pub record HavePlayed (r : ℕ) (now : Millis) (olds : List Peer) (mail : List (Vec Letter Global))
-    (n : ℕ) (news : List Peer) (mail' next : List (Vec Letter Global)) : Type 0 where
+pub record HavePlayed {T : Type 0} (r : ℕ) (now : Millis) (olds : List (Peer T)) (mail : List (Vec Letter Global))
+    (n : ℕ) (news : List (Peer T)) (mail' next : List (Vec Letter Global)) : Type 0 where
   pub many : length news ≡ length olds
   pub boxes : length mail' ≡ length mail
   pub places : length next ≡ length mail
@@ -166,21 +166,28 @@ pub record HavePlayed (r : ℕ) (now : Millis) (olds : List Peer) (mail : List (
 -- ---- the end
 
 -- The peer of this number has shut down.
-pub record ClosesAt (now : Millis) (olds : List Peer) (mail : List (Vec Letter Global))
-    (n : ℕ) (news : List Peer) : Type 0 where
-  pub old : Peer
-  pub new : Peer
+pub record ClosesAt {T : Type 0} (now : Millis) (olds : List (Peer T)) (mail : List (Vec Letter Global))
+    (n : ℕ) (news : List (Peer T)) : Type 0 where
+  pub old : Peer T
+  pub new : Peer T
   pub was : slice_get olds n ≡ Some old
   pub is : slice_get news n ≡ Some new
   pub closes_so : Closes now (list_at mail n) old new
 
 -- The first n peers have shut down, and the others have not.
-pub record HaveClosed (now : Millis) (olds : List Peer) (mail : List (Vec Letter Global))
-    (n : ℕ) (news : List Peer) : Type 0 where
+pub record HaveClosed {T : Type 0} (now : Millis) (olds : List (Peer T)) (mail : List (Vec Letter Global))
+    (n : ℕ) (news : List (Peer T)) : Type 0 where
   pub many : length news ≡ length olds
   pub left : (k : ℕ) → n ≤ k → slice_get news k ≡ slice_get olds k
   pub done : (k : ℕ) → k < n → ClosesAt now olds mail k news
 
+-- All peers have played the rounds and shut down.
+pub record HaveEnded {T : Type 0} (plan : Plan) (news : List (Peer T)) : Type 0 where
+  pub olds : List (Peer T)
+  pub mail : List (Vec Letter Global)
+  pub at_end : AreAt plan (suc plan.rounds) olds mail
+  pub closed : HaveClosed (moment_of (seat_in plan (peer_no 0)) Closing) olds mail (length plan.peers) news
+
 -- what a run leaves of a peer, with its number
-abbrev pub numbered : Plan → Peer → PeerNo × Finished
+abbrev pub numbered : {T : Type 0} → Plan → Peer T → PeerNo × Finished
 numbered plan peer = (peer.number, left_of (record { 0 = plan.rounds * plan.round_ms }) peer)

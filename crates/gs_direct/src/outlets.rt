@@ -1,18 +1,19 @@
 //! What a peer sends to its neighbours.
-ghost use Rattle.std.specs.Prelude.{◌≡◌, ◌≤◌, ◌++◌, false, true, OnOk, IfOk, length};
+ghost use Rattle.std.specs.Prelude.{◌≡◌, ◌++◌, false, true, OnOk, IfOk, length, reverse};
 ghost use Rattle.std.specs.List.{AllByRecursion, AllZip};
 ghost use Rattle.gs_base.specs.declared.names.PeerNo.{PeerNo as PeerNoValue};
 ghost use Rattle.gs_base.specs.Names.{peers_of};
 ghost use Rattle.gs_rules.specs.Legal.{Legal};
 ghost use Rattle.gs_rules.specs.Saying.{is_cut_by};
+ghost use Rattle.gs_router.specs.Log.{this_round};
 ghost use Rattle.gs_seats.specs.ListsByPeer.{list_at};
-ghost use Rattle.gs_direct.specs.Outlets.{AllWritten, IsHandedOver, IsNew, IsSilent, Says, SaysAll, SaysSince, SendsWritten, Within, given};
+ghost use Rattle.gs_direct.specs.Outlets.{AllWritten, IsHandedOver, IsNew, IsSilent, Says, SaysAll, SendsWritten, Within, given};
 
 use crate::letter::Letter;
 use crate::outlet::Outlet;
 use gs_base::{Neighbour, PeerNo};
 use gs_plan::Act;
-use gs_router::Router;
+use gs_router::{Retention, Router};
 use gs_rules::{Event, StoredEntry};
 use gs_seats::put_last;
 use std::alloc::{AllocError, Global};
@@ -31,21 +32,19 @@ pub fn outlets_of(alloc: Global, neighbours: &[Neighbour]) -> Result<Vec<Outlet>
     Ok(outlets)
 }
 
-/// Sends the neighbours what a router's trace says after its first `told` entries.
+/// Sends the neighbours what a router's trace says in the round in which it is.
 ///
 /// # Errors
 /// `AllocError` when out of memory.
-pub fn tell_since(
+pub fn tell_round<K: Retention>(
     alloc: Global,
     outlets: &mut [Outlet],
-    router: &Router,
-    told: usize,
+    router: &Router<K>,
 ) -> Result<(), AllocError>
-    requires known { told ≤ length router.now.trace }
-    requires legal { Legal router.now.peer router.now.trace }
-    ensures { OnOk result (SaysSince told router.now.trace outlets.old outlets.new) }
+    requires { Legal router.now.peer router.now.trace }
+    ensures { OnOk result (AllZip (SaysAll (reverse (this_round router.now.trace))) outlets.old outlets.new) }
 {
-    tell_all(alloc, outlets, &router.trace().entries()[told..])?;
+    tell_all(alloc, outlets, router.round())?;
     Ok(())
 }
 

@@ -9,29 +9,40 @@ ghost use Rattle.gs_rules.specs.Rounds.{Hear};
 ghost use Rattle.gs_player.specs.Playing.{IsRunning, RpcsFit, Runs};
 ghost use Rattle.gs_direct.specs.Letters.{LettersFit, all_heard, ending_heard, heard_of};
 ghost use Rattle.gs_direct.specs.Outlets.{Within};
-ghost use Rattle.gs_direct.specs.Peers.{Closes, HandsOver, IsNewPeer, PlaysRound, left_of};
+ghost use Rattle.gs_direct.specs.Peers.{Closes, HandsOver, IsNewPeer, PlaysRound, left_of, remains_of};
 
 use crate::letter::{Ending, Letter};
 use crate::outlet::Outlet;
-use crate::outlets::{hand_over, outlets_of, tell_since};
-use gs_base::{Millis, PeerNo, Rpc, Seq, Shared};
+use crate::outlets::{hand_over, outlets_of, tell_round};
+use gs_base::{Millis, PeerNo, Rpc, Seq, Shared, Topic};
 use gs_params::SeededWords;
 use gs_plan::{Line, Plan};
 use gs_player::{Agenda, decay_and_beat, follow_all, never_refused};
 use gs_report::Finished;
-use gs_router::Router;
+use gs_router::{Retention, Router, WholeTrace};
 use gs_rules::RefusedLine;
 use gs_seats::{first_words, neighbours_of, router_of};
 use std::alloc::{AllocError, Global};
 
+/// What a run leaves of a peer besides its trace.
+#[derive(Debug, Drop, PartialEq, Eq)]
+pub struct Remains {
+    /// The lines of the script that it could not follow.
+    pub refused: Seq<RefusedLine>,
+    /// The members of its meshes, topic by topic in the order of their bytes, members by number.
+    pub meshes: Seq<(Topic, PeerNo)>,
+    /// Its neighbours' scores in millionths, by number.
+    pub scores: Seq<(PeerNo, i128)>,
+}
+
 /// A peer between two rounds.
 #[derive(Drop)]
-pub struct Peer {
+pub struct Peer<K: Retention> {
     /// Its number in the plan.
     pub number: PeerNo,
     /// Its lines of the script, by rounds.
     pub agenda: Agenda,
-    pub router: Router,
+    pub router: Router<K>,
     /// Its random words.
     pub words: SeededWords,
     /// The lines that it could not follow so far.
@@ -40,7 +51,7 @@ pub struct Peer {
     pub outlets: Vec<Outlet>,
 }
 
-impl Peer {
+impl<K: Retention> Peer<K> {
     /// Returns a peer of a plan that has done nothing, with its lines of the script.
     ///
     /// # Errors
@@ -50,7 +61,7 @@ impl Peer {
         plan: &Plan,
         number: PeerNo,
         lines: Vec<(usize, Line)>,
-    ) -> Result<Peer, AllocError>
+    ) -> Result<Peer<K>, AllocError>
         requires range { IsInRange plan.now }
         requires own { lines.items ≡ lines_in plan.now number }
         ensures { IfOk result (IsNewPeer plan.now number) }
@@ -87,7 +98,6 @@ impl Peer {
         requires fit { LettersFit letters.items }
         ensures { OnOk result (PlaysRound round now letters.items self.old self.new) }
     {
-        let told = self.router.trace().entries().len();
         self.hear(letters, now)?;
         follow_all(
             &mut self.router,
@@ -98,7 +108,7 @@ impl Peer {
         )?;
         decay_and_beat(&mut self.router, &mut self.words, round, now)?;
         never_refused(self.router.end_round(round, now, &mut self.words))?;
-        tell_since(alloc, &mut self.outlets, &self.router, told)
+        tell_round(alloc, &mut self.outlets, &self.router)
     }
 
     /// Hands over to its neighbours what it said in the round.
@@ -145,6 +155,26 @@ impl Peer {
         Ok(())
     }
 
+    /// Returns what the run leaves of the peer besides its trace.
+    ///
+    /// # Errors
+    /// `AllocError` when out of memory.
+    pub fn remains(self, now: Millis) -> Result<Remains, AllocError>
+        requires { self.router.is_stopped ≡ false }
+        ensures { IfOk result (λ remains. remains ≡ remains_of (left_of now self)) }
+    {
+        let meshes = self.router.meshes()?;
+        let scores = self.router.scores(now)?;
+        let Peer { refused, .. } = self;
+        Ok(Remains {
+            refused: Seq::from(refused),
+            meshes,
+            scores,
+        })
+    }
+}
+
+impl Peer<WholeTrace> {
     /// Returns what the run leaves of the peer.
     ///
     /// # Errors
@@ -170,8 +200,8 @@ impl Peer {
 }
 
 /// Hears a letter: its RPCs, and then how it ends.
-fn hear(
-    router: &mut Router,
+fn hear<K: Retention>(
+    router: &mut Router<K>,
     words: &mut SeededWords,
     letter: Letter,
     now: Millis,
@@ -186,8 +216,8 @@ fn hear(
     hear_ending(router, words, from, ending, now)
 }
 
-fn hear_rpcs(
-    router: &mut Router,
+fn hear_rpcs<K: Retention>(
+    router: &mut Router<K>,
     words: &mut SeededWords,
     from: PeerNo,
     rpcs: Vec<Shared<Rpc>>,
@@ -207,8 +237,8 @@ fn hear_rpcs(
     Ok(())
 }
 
-fn hear_ending(
-    router: &mut Router,
+fn hear_ending<K: Retention>(
+    router: &mut Router<K>,
     words: &mut SeededWords,
     from: PeerNo,
     ending: Option<Ending>,

@@ -13,6 +13,7 @@ use crate::letter::Letter;
 use crate::peer::Peer;
 use gs_base::{Millis, PeerNo};
 use gs_cache::Payloads;
+use gs_router::Retention;
 use gs_seats::{empty_lists, take_list};
 use std::alloc::{AllocError, Global};
 use std::mem;
@@ -62,9 +63,9 @@ impl Post {
     ///
     /// # Errors
     /// `AllocError` when out of memory.
-    pub fn play(
+    pub fn play<K: Retention>(
         &mut self,
-        peer: &mut Peer,
+        peer: &mut Peer<K>,
         number: PeerNo,
         round: u64,
         now: Millis,

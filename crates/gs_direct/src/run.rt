@@ -1,19 +1,26 @@
 //! All peers of a run.
-ghost use Rattle.std.specs.Prelude.{◌≡◌, ◌≤◌, suc, false, IfErr, IfOk, OnOk, length, map};
+ghost use Rattle.std.specs.Prelude.{◌≡◌, ◌≤◌, [], suc, false, List, IfErr, IfOk, OnOk, length, map};
 ghost use Rattle.std.specs.List.{AllByRecursion, AllZip};
+ghost use Rattle.gs_base.specs.declared.names.PeerNo.{PeerNo as PeerNoValue};
 ghost use Rattle.gs_plan.specs.Plans.{IsInRange};
+ghost use Rattle.gs_report.specs.declared.finished.Finished.{Finished as FinishedValue};
 ghost use Rattle.gs_rules.specs.Rounds.{Closing, moment_of};
+ghost use Rattle.gs_rules.specs.Tables.{Entries};
+ghost use Rattle.gs_router.specs.Following.{AreInOrder};
 ghost use Rattle.gs_seats.specs.Faults.{number_of};
 ghost use Rattle.gs_seats.specs.Reports.{IsReport};
-ghost use Rattle.gs_seats.specs.Rounds.{IsRun, numbers, peer_no, seat_in};
-ghost use Rattle.gs_direct.specs.Peers.{IsNewPeer};
-ghost use Rattle.gs_direct.specs.Runs.{AreAt, HaveClosed, IsRoomFor, numbered};
+ghost use Rattle.gs_seats.specs.Rounds.{IsRun, numbers, peer_no, seat_in, trace_of};
+ghost use Rattle.gs_direct.specs.Observing.{HasSeen, HaveGrown};
+ghost use Rattle.gs_direct.specs.Peers.{IsNewPeer, remains_of};
+ghost use Rattle.gs_direct.specs.Runs.{AreAt, HaveClosed, HaveEnded, IsRoomFor, numbered, trace_at};
 
-use crate::peer::Peer;
+use crate::observer::{Nobody, Observer};
+use crate::peer::{Peer, Remains};
 use crate::post::Post;
 use gs_base::{Millis, PeerNo};
 use gs_plan::Plan;
 use gs_report::{Finished, Report};
+use gs_router::{LastRound, Retention, WholeTrace};
 use gs_seats::{NetFault, lines_by_peer, take_list};
 use std::alloc::{AllocError, Global};
 
@@ -37,21 +44,65 @@ pub fn run_direct(alloc: Global, plan: &Plan) -> Result<Report, NetFault>
     }
 }
 
+/// Runs the peers of a plan as `run_direct` does. An observer sees all that they do, and no trace is kept. It has seen
+/// nothing before. What is returned is what the run leaves of each peer besides its trace, by number.
+///
+/// # Errors
+/// `NoMemory` when out of memory. It names no peer, and the clause leaves that open.
+pub fn run_observed<O: Observer>(
+    alloc: Global,
+    plan: &Plan,
+    observer: &mut O,
+) -> Result<Vec<(PeerNo, Remains)>, NetFault>
+    requires range { IsInRange plan.now }
+    requires new { O.saw observer.old (λ p. []) }
+    ensures run { IfOk result (λ remains. (lives : List FinishedValue)
+        × IsRun plan.now lives
+        × HasSeen (O.saw observer.new) (trace_of lives)
+        × (map (λ x. x.0) remains.items ≡ numbers plan.now)
+        × (map (λ x. x.1) remains.items ≡ map remains_of lives)) }
+    ensures memory { IfErr result (λ fault. number_of fault ≡ 24) }
+{
+    match remains_seen(alloc, plan, observer) {
+        Ok(remains) => Ok(remains),
+        Err(_) => Err(NetFault::NoMemory(None)),
+    }
+}
+
+/// Runs the peers before an observer, and returns what the run leaves of each besides its trace, by number.
+fn remains_seen<O: Observer>(
+    alloc: Global,
+    plan: &Plan,
+    observer: &mut O,
+) -> Result<Vec<(PeerNo, Remains)>, AllocError>
+    requires range { IsInRange plan.now }
+    requires new { O.saw observer.old (λ p. []) }
+    ensures { IfOk result (λ remains. (lives : List FinishedValue)
+        × IsRun plan.now lives
+        × HasSeen (O.saw observer.new) (trace_of lives)
+        × (map (λ x. x.0) remains.items ≡ numbers plan.now)
+        × (map (λ x. x.1) remains.items ≡ map remains_of lives)) }
+{
+    let mut peers = peers_of::<LastRound>(alloc, plan)?;
+    let mut post = Post::new(alloc, plan.peers.len())?;
+    run_all(plan, &mut peers, &mut post, observer)?;
+    remains_of_all(alloc, plan, peers)
+}
+
 /// Runs the peers, and returns what the run leaves of each, by number.
 fn lives_of(alloc: Global, plan: &Plan) -> Result<Vec<(PeerNo, Finished)>, AllocError>
     requires { IsInRange plan.now }
     ensures numbers { IfOk result (λ lives. map (λ x. x.0) lives.items ≡ numbers plan.now) }
     ensures run { IfOk result (λ lives. IsRun plan.now (map (λ x. x.1) lives.items)) }
 {
-    let mut peers = peers_of(alloc, plan)?;
+    let mut peers = peers_of::<WholeTrace>(alloc, plan)?;
     let mut post = Post::new(alloc, plan.peers.len())?;
-    play_all(plan, &mut peers, &mut post)?;
-    close_all(plan, &mut peers, &mut post)?;
+    run_all(plan, &mut peers, &mut post, &mut Nobody)?;
     finish_all(alloc, plan, peers)
 }
 
 /// Returns the peers of a plan, which have done nothing.
-fn peers_of(alloc: Global, plan: &Plan) -> Result<Vec<Peer>, AllocError>
+fn peers_of<K: Retention>(alloc: Global, plan: &Plan) -> Result<Vec<Peer<K>>, AllocError>
     requires { IsInRange plan.now }
     ensures { IfOk result (λ peers. AllZip (IsNewPeer plan.now) (numbers plan.now) peers.items) }
 {
@@ -66,23 +117,72 @@ fn peers_of(alloc: Global, plan: &Plan) -> Result<Vec<Peer>, AllocError>
     Ok(peers)
 }
 
-/// Plays all rounds. After that, what was said in the last round is on its way.
-fn play_all(plan: &Plan, peers: &mut [Peer], post: &mut Post) -> Result<(), AllocError>
+/// Plays all rounds, and shuts all peers down. An observer sees all that they do.
+fn run_all<K: Retention, O: Observer>(
+    plan: &Plan,
+    peers: &mut [Peer<K>],
+    post: &mut Post,
+    observer: &mut O,
+) -> Result<(), AllocError>
     requires range { IsInRange plan.now }
     requires begun { AreAt plan.now 0 peers.old post.old.mail.items }
     requires next { IsRoomFor plan.now post.old.next.items }
-    ensures { OnOk result (AreAt plan.now (suc plan.now.rounds) peers.new post.new.mail.items) }
+    requires saw { HasSeen (O.saw observer.old) (trace_at peers.old) }
+    ensures ended { OnOk result (HaveEnded plan.now peers.new) }
+    ensures saw { OnOk result (HasSeen (O.saw observer.new) (trace_at peers.new)) }
+{
+    play_all(plan, peers, post, observer)?;
+    close_all(plan, peers, post)?;
+    observe(plan, peers, observer)?;
+    Ok(())
+}
+
+/// Plays all rounds, which an observer sees. After that, what was said in the last round is on its way.
+fn play_all<K: Retention, O: Observer>(
+    plan: &Plan,
+    peers: &mut [Peer<K>],
+    post: &mut Post,
+    observer: &mut O,
+) -> Result<(), AllocError>
+    requires range { IsInRange plan.now }
+    requires begun { AreAt plan.now 0 peers.old post.old.mail.items }
+    requires next { IsRoomFor plan.now post.old.next.items }
+    requires saw { HasSeen (O.saw observer.old) (trace_at peers.old) }
+    ensures played { OnOk result (AreAt plan.now (suc plan.now.rounds) peers.new post.new.mail.items) }
+    ensures saw { OnOk result (HasSeen (O.saw observer.new) (trace_at peers.new)) }
 {
     for round in 0..plan.rounds + 1 {
         play_round(plan, peers, post, round)?;
+        observe(plan, peers, observer)?;
+    }
+    Ok(())
+}
+
+/// Shows an observer what each peer did in the round in which it is.
+fn observe<K: Retention, O: Observer>(
+    plan: &Plan,
+    peers: &[Peer<K>],
+    observer: &mut O,
+) -> Result<(), AllocError>
+    requires range { IsInRange plan.now }
+    requires many { length peers.now ≡ length plan.now.peers }
+    requires order { AllByRecursion (λ peer. AreInOrder peer.router.trace) peers.now }
+    requires saw { (before : PeerNoValue → Entries)
+        × HasSeen (O.saw observer.old) before × HaveGrown before (trace_at peers.now) }
+    ensures { OnOk result (HasSeen (O.saw observer.new) (trace_at peers.now)) }
+{
+    let count = plan.peers.len() as u16;
+    for number in 0..count {
+        let round = peers[usize::from(number)].router.round();
+        observer.see(PeerNo(number), round)?;
     }
     Ok(())
 }
 
 /// Plays a round: one peer after the other.
-fn play_round(
+fn play_round<K: Retention>(
     plan: &Plan,
-    peers: &mut [Peer],
+    peers: &mut [Peer<K>],
     post: &mut Post,
     round: u64,
 ) -> Result<(), AllocError>
@@ -92,6 +192,7 @@ fn play_round(
     requires next { IsRoomFor plan.now post.old.next.items }
     ensures after { OnOk result (AreAt plan.now (suc round) peers.new post.new.mail.items) }
     ensures next { OnOk result (IsRoomFor plan.now post.new.next.items) }
+    ensures grown { OnOk result (HaveGrown (trace_at peers.old) (trace_at peers.new)) }
 {
     let now = Millis(round * plan.round_ms);
     let count = plan.peers.len() as u16;
@@ -104,7 +205,11 @@ fn play_round(
 }
 
 /// Shuts all peers down, and has them hear what is still on its way.
-fn close_all(plan: &Plan, peers: &mut [Peer], post: &mut Post) -> Result<(), AllocError>
+fn close_all<K: Retention>(
+    plan: &Plan,
+    peers: &mut [Peer<K>],
+    post: &mut Post,
+) -> Result<(), AllocError>
     requires range { IsInRange plan.now }
     requires last { AreAt plan.now (suc plan.now.rounds) peers.old post.old.mail.items }
     ensures { OnOk result (HaveClosed (moment_of (seat_in plan.now (peer_no 0)) Closing)
@@ -123,7 +228,7 @@ fn close_all(plan: &Plan, peers: &mut [Peer], post: &mut Post) -> Result<(), All
 fn finish_all(
     alloc: Global,
     plan: &Plan,
-    peers: Vec<Peer>,
+    peers: Vec<Peer<WholeTrace>>,
 ) -> Result<Vec<(PeerNo, Finished)>, AllocError>
     requires range { IsInRange plan.now }
     requires running { AllByRecursion (λ peer. peer.router.is_stopped ≡ false) peers.items }
@@ -136,4 +241,24 @@ fn finish_all(
         lives.push((number, peer.finish(now)?))?;
     }
     Ok(lives)
+}
+
+/// Returns what the run leaves of the peers besides their traces, each with its number.
+fn remains_of_all(
+    alloc: Global,
+    plan: &Plan,
+    peers: Vec<Peer<LastRound>>,
+) -> Result<Vec<(PeerNo, Remains)>, AllocError>
+    requires range { IsInRange plan.now }
+    requires running { AllByRecursion (λ peer. peer.router.is_stopped ≡ false) peers.items }
+    ensures { IfOk result (λ remains.
+        remains.items ≡ map (λ x. (x.0, remains_of x.1)) (map (numbered plan.now) peers.items)) }
+{
+    let now = Millis(plan.rounds * plan.round_ms);
+    let mut all = Vec::with_capacity(alloc, peers.len())?;
+    for peer in peers {
+        let number = peer.number;
+        all.push((number, peer.remains(now)?))?;
+    }
+    Ok(all)
 }

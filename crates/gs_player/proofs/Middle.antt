@@ -43,7 +43,7 @@ paid_within (e ∷ paid) owed = (owed_within e.event owed.0, paid_within paid ow
 
 -- ---- what there is to do
 
-abbrev IsWork : Todo → Type 0
+abbrev pub IsWork : Todo → Type 0
 IsWork (EndRound r) = ⊥
 IsWork other = Unit {0}
 
@@ -81,7 +81,7 @@ further : (K M L : Entries) → GoesOnWithin K M → GoesOnWithin M L → GoesOn
 further K M L (before, is, within) (behind, is', within') =
     (behind ++ before, is' ∙ ap (λ (N : Entries). behind ++ N) is ∙ sym (append_assoc behind before K), all-append (λ (e : Entry). IsWithin e.event) behind before within' within)
 
-comes_within : (p : Peer) (at : Millis) (event : Option Event) (K L : Entries) → Comes p at event K L → Legal p L → OpensWithin event → GoesOnWithin K L
+pub comes_within : (p : Peer) (at : Millis) (event : Option Event) (K L : Entries) → Comes p at event K L → Legal p L → OpensWithin event → GoesOnWithin K L
 comes_within p at None K L comes legal within = ([], comes, tt)
 comes_within p at (Some event) K L comes legal within =
     let b = comes.begun in
@@ -91,7 +91,7 @@ comes_within p at (Some event) K L comes legal within =
       all-append (λ (e : Entry). IsWithin e.event) b.paid (b.first ∷ []) (paid_within b.paid paid) (subst IsWithin (sym b.opened) within, tt),
     )
 
-does_within : (p : Peer) (at : Millis) (todos : List Todo) (K L : Entries) (refused : List RefusedLine) → Does p at todos K L refused → Legal p L → AllByRecursion IsWork todos → GoesOnWithin K L
+pub does_within : (p : Peer) (at : Millis) (todos : List Todo) (K L : Entries) (refused : List RefusedLine) → Does p at todos K L refused → Legal p L → AllByRecursion IsWork todos → GoesOnWithin K L
 does_within p at [] K L refused h legal work = ([], h.0, tt)
 does_within p at (todo ∷ todos) K L refused (M, later, comes, does, is) legal work =
     let before : Legal p M = legal_then_before p M L (does_on p at todos M L later does) legal in

@@ -11,13 +11,13 @@ ghost use Rattle.gs_player.specs.Playing.{IsRunning, Runs};
 use gs_base::{Millis, clone_of};
 use gs_params::SeededWords;
 use gs_plan::Line;
-use gs_router::{Router, RouterFault};
+use gs_router::{Retention, Router, RouterFault};
 use gs_rules::RefusedLine;
 use std::alloc::AllocError;
 
 /// Follows these lines, in order, and adds those that are refused to `refused`.
-pub fn follow_all(
-    router: &mut Router,
+pub fn follow_all<K: Retention>(
+    router: &mut Router<K>,
     words: &mut SeededWords,
     refused: &mut Vec<RefusedLine>,
     lines: &[(usize, Line)],
@@ -36,8 +36,8 @@ pub fn follow_all(
 }
 
 /// Follows a line of the script, or notes that it is refused.
-fn follow(
-    router: &mut Router,
+fn follow<K: Retention>(
+    router: &mut Router<K>,
     words: &mut SeededWords,
     refused: &mut Vec<RefusedLine>,
     line: &(usize, Line),
@@ -65,8 +65,8 @@ fn follow(
 }
 
 /// Lowers the counters of scores and has a heartbeat, each if it is due in a round.
-pub fn decay_and_beat(
-    router: &mut Router,
+pub fn decay_and_beat<K: Retention>(
+    router: &mut Router<K>,
     words: &mut SeededWords,
     round: u64,
     now: Millis,
@@ -82,8 +82,8 @@ pub fn decay_and_beat(
 }
 
 /// Lowers the counters of scores by a step, if that is due in a round.
-fn decay_if_due(
-    router: &mut Router,
+fn decay_if_due<K: Retention>(
+    router: &mut Router<K>,
     words: &mut SeededWords,
     round: u64,
     now: Millis,
@@ -100,8 +100,8 @@ fn decay_if_due(
 }
 
 /// Has a heartbeat, if one is due in a round.
-fn beat_if_due(
-    router: &mut Router,
+fn beat_if_due<K: Retention>(
+    router: &mut Router<K>,
     words: &mut SeededWords,
     round: u64,
     now: Millis,

@@ -61,7 +61,7 @@ idles m now v s q event runs down legal = subst (λ (o : Option Event). Calls {A
   legal = legal;
 })
 
-module _ (m : Mode) {E : Type 0} (event : Event) (now : Millis) (a b : State) (s t : m.State) (stopped after : Bool) (runs : stopped ≡ false) where
+module _ {K : Type 0} (m : Mode) {E : Type 0} (event : Event) (now : Millis) (a b : State K) (s t : m.State) (stopped after : Bool) (runs : stopped ≡ false) where
   -- what is not refused is done, or memory ran out
   pub ends_call : (done : Result (Unit {0}) E) (answer : Result (Unit {0}) RouterFault) → answer ≡ answer_of done → after ≡ (stopped || fails done) → refusal (peer_with a.known.setup) a.trace now.0 event ≡ None → WorkEnds m event now a s done b t → Calls m (Some event) now (view_of a stopped) s answer (view_of b after) t
   ends_call done answer answer_is after_is free ends =

@@ -30,7 +30,7 @@ use Rattle.gs_router.specs.State.{Appends, IsCurrent, IsReady, Paying, Steps, Wo
 -- ---- what a router knows
 
 -- it knows its own trace
-pub knows : (s : State) (now : ℕ) → IsCurrent s → last_moment s.trace ≤ now → Knows s.known now s.trace
+pub knows : {K : Type 0} (s : State K) (now : ℕ) → IsCurrent s → last_moment s.trace ≤ now → Knows s.known now s.trace
 knows s now current time = record { agrees = current.agrees; scores = current.scores; made = current.made; time = time; explicit = current.fit.explicit }
 
 -- ---- steps
@@ -47,7 +47,7 @@ module _ (m : Mode) (weakens : Weakens m free (λ u. tt)) where
 
   module _ {A E : Type 0} where
     -- an entry of effects that follow the rule was appended, or memory ran out
-    pub followed : (event : Event) (now : Millis) (a b : State) (s t : m.State) (effects : Effects) (done : Result A E) → IsCurrent a → last_moment a.trace ≤ now.0 → IsNext (peer_with a.known.setup) a.trace now.0 (owed (peer_with a.known.setup) a.trace).events event → Follows m (rule_of (peer_with a.known.setup) a.trace now event) s effects t → OnOk done (b.trace ≡ entry_of now event effects ∷ a.trace) → OnOk done ((L : Entries) → Agrees a.known.tables L → Agrees b.known.tables (entry_of now event effects ∷ L)) → OnOk done ((p : Peer) (L : Entries) → AgreesOnScores p a.known.tables.standings L → AgreesOnScores p b.known.tables.standings (entry_of now event effects ∷ L)) → OnOk done ((p : Peer) → AreMadeFor a.known.tables p → AreMadeFor b.known.tables p) → OnErr done (b.trace ≡ a.trace) → b.known.setup ≡ a.known.setup → Steps m event now a s done b t
+    pub followed : {K : Type 0} (event : Event) (now : Millis) (a b : State K) (s t : m.State) (effects : Effects) (done : Result A E) → IsCurrent a → last_moment a.trace ≤ now.0 → IsNext (peer_with a.known.setup) a.trace now.0 (owed (peer_with a.known.setup) a.trace).events event → Follows m (rule_of (peer_with a.known.setup) a.trace now event) s effects t → OnOk done (b.trace ≡ entry_of now event effects ∷ a.trace) → OnOk done ((L : Entries) → Agrees a.known.tables L → Agrees b.known.tables (entry_of now event effects ∷ L)) → OnOk done ((p : Peer) (L : Entries) → AgreesOnScores p a.known.tables.standings L → AgreesOnScores p b.known.tables.standings (entry_of now event effects ∷ L)) → OnOk done ((p : Peer) → AreMadeFor a.known.tables p → AreMadeFor b.known.tables p) → OnErr done (b.trace ≡ a.trace) → b.known.setup ≡ a.known.setup → Steps m event now a s done b t
     followed event now a b s t effects (Ok x) current time next follows added agrees scores made kept setup =
         let p = peer_with a.known.setup in
         let one = legal_one m p s t a.trace (entry_of now event effects) (record { time = time; next = next; effects = follows }) in
@@ -66,7 +66,7 @@ module _ (m : Mode) (weakens : Weakens m free (λ u. tt)) where
     followed event now a b s t effects (Err x) current time next follows added agrees scores made kept setup = record { added = tt; current = tt; kept = kept; setup = setup }
 
     -- memory ran out before anything came
-    pub breaks_off : (event : Event) (now : Millis) (a b : State) (s t : m.State) (e : E) → IsCurrent a → b.trace ≡ a.trace → b.known.setup ≡ a.known.setup → WorkEnds {A = A} {E = E} m event now a s (Err e) b t
+    pub breaks_off : {K : Type 0} (event : Event) (now : Millis) (a b : State K) (s t : m.State) (e : E) → IsCurrent a → b.trace ≡ a.trace → b.known.setup ≡ a.known.setup → WorkEnds {A = A} {E = E} m event now a s (Err e) b t
     breaks_off event now a b s t e current kept setup = record {
       opened = tt;
       appended = tt;
@@ -77,12 +77,12 @@ module _ (m : Mode) (weakens : Weakens m free (λ u. tt)) where
       setup = setup;
     }
 
-    pub stops : (event : Event) (now : Millis) (a b : State) (s t : m.State) (done : Result A E) → IsErr done → IsCurrent a → b.trace ≡ a.trace → b.known.setup ≡ a.known.setup → WorkEnds m event now a s done b t
+    pub stops : {K : Type 0} (event : Event) (now : Millis) (a b : State K) (s t : m.State) (done : Result A E) → IsErr done → IsCurrent a → b.trace ≡ a.trace → b.known.setup ≡ a.known.setup → WorkEnds m event now a s done b t
     stops event now a b s t (Ok x) fails current kept setup = absurd cc
     stops event now a b s t (Err e) fails current kept setup = breaks_off event now a b s t e current kept setup
 
     -- an event that owes nothing comes with its step
-    pub opens_alone : (event : Event) (now : Millis) (a b : State) (s t : m.State) (done : Result A E) → IsReady a → owes (peer_with a.known.setup) a.trace now.0 event ≡ [] → Steps m event now a s done b t → WorkEnds m event now a s done b t
+    pub opens_alone : {K : Type 0} (event : Event) (now : Millis) (a b : State K) (s t : m.State) (done : Result A E) → IsReady a → owes (peer_with a.known.setup) a.trace now.0 event ≡ [] → Steps m event now a s done b t → WorkEnds m event now a s done b t
     opens_alone event now a b s t (Ok x) ready none steps =
         let one = steps.added in
         let p = peer_with a.known.setup in
@@ -124,13 +124,13 @@ not_nil x xs [] is = absurd cc
 not_nil x xs (y ∷ ys) is = λ none. absurd cc
 
 -- what is owed first may come
-pub next_due : (m : Mode) (now : Millis) (event first : Event) (rest : List Event) (groups : List Group) (a b : State) (s t : m.State) → Paying m now event a s b t (first ∷ rest) groups → IsNext (peer_with b.known.setup) b.trace now.0 (owed (peer_with b.known.setup) b.trace).events first
+pub next_due : {K : Type 0} (m : Mode) (now : Millis) (event first : Event) (rest : List Event) (groups : List Group) (a b : State K) (s t : m.State) → Paying m now event a s b t (first ∷ rest) groups → IsNext (peer_with b.known.setup) b.trace now.0 (owed (peer_with b.known.setup) b.trace).events first
 next_due m now event first rest groups a b s t h =
     let owed_first : owed (peer_with b.known.setup) b.trace ≡ record { events = first ∷ rest; groups = groups } = ap (λ (g : Setup). owed (peer_with g) b.trace) h.setup ∙ h.owes in
     subst (λ (debt : Debt). IsNext (peer_with b.known.setup) b.trace now.0 debt.events first) (sym owed_first) refl
 
 -- where nothing is left of a group, the next one is reached
-pub pays_group : (m : Mode) (now : Millis) (event : Event) (group : Group) (groups : List Group) (a b : State) (s t : m.State) → Paying m now event a s b t [] (group ∷ groups) → Paying m now event a s b t (events_in (peer_with a.known.setup) b.trace group) groups
+pub pays_group : {K : Type 0} (m : Mode) (now : Millis) (event : Event) (group : Group) (groups : List Group) (a b : State K) (s t : m.State) → Paying m now event a s b t [] (group ∷ groups) → Paying m now event a s b t (events_in (peer_with a.known.setup) b.trace group) groups
 pays_group m now event group groups a b s t h = record {
   current = h.current;
   setup = h.setup;
@@ -142,7 +142,7 @@ pays_group m now event group groups a b s t h = record {
 
 module _ (m : Mode) {A E : Type 0} where
   -- an RPC that is not heard in vain owes its parts
-  pub hears_first : (now : Millis) (q : PeerNo) (rpc : Rpc) (a b : State) (s t : m.State) (x : A) → is_graylisted (peer_with a.known.setup) a.trace now.0 q ≡ false → Steps {A = A} {E = E} m (Heard q rpc) now a s (Ok x) b t → Paying m now (Heard q rpc) a s b t (parts q rpc) []
+  pub hears_first : {K : Type 0} (now : Millis) (q : PeerNo) (rpc : Rpc) (a b : State K) (s t : m.State) (x : A) → is_graylisted (peer_with a.known.setup) a.trace now.0 q ≡ false → Steps {A = A} {E = E} m (Heard q rpc) now a s (Ok x) b t → Paying m now (Heard q rpc) a s b t (parts q rpc) []
   hears_first now q rpc a b s t x listened steps =
       let one = steps.added in
       let p = peer_with a.known.setup in
@@ -158,7 +158,7 @@ module _ (m : Mode) {A E : Type 0} where
       }
 
   -- a heartbeat owes what it does to meshes, to fanouts and by gossip
-  pub beats_first : (now : Millis) (a b : State) (s t : m.State) (x : A) → Steps {A = A} {E = E} m BeatBegin now a s (Ok x) b t → Paying m now BeatBegin a s b t [] (heartbeat_groups now.0)
+  pub beats_first : {K : Type 0} (now : Millis) (a b : State K) (s t : m.State) (x : A) → Steps {A = A} {E = E} m BeatBegin now a s (Ok x) b t → Paying m now BeatBegin a s b t [] (heartbeat_groups now.0)
   beats_first now a b s t x steps =
       let one = steps.added in
       let p = peer_with a.known.setup in
@@ -174,7 +174,7 @@ module _ (m : Mode) {A E : Type 0} where
       }
 
   -- one more event of the group is paid, which owes nothing itself
-  pub pays_next : (now : Millis) (event first : Event) (rest : List Event) (groups : List Group) (a b c : State) (s t u : m.State) (x : A) → Paying m now event a s b t (first ∷ rest) groups → owes (peer_with a.known.setup) b.trace now.0 first ≡ [] → Steps {A = A} {E = E} m first now b t (Ok x) c u → Paying m now event a s c u rest groups
+  pub pays_next : {K : Type 0} (now : Millis) (event first : Event) (rest : List Event) (groups : List Group) (a b c : State K) (s t u : m.State) (x : A) → Paying m now event a s b t (first ∷ rest) groups → owes (peer_with a.known.setup) b.trace now.0 first ≡ [] → Steps {A = A} {E = E} m first now b t (Ok x) c u → Paying m now event a s c u rest groups
   pays_next now event first rest groups a b c s t u x h alone steps =
       let one = steps.added in
       let p = peer_with a.known.setup in
@@ -204,7 +204,7 @@ module _ (m : Mode) {A E : Type 0} where
       }
 
   -- nothing is left to pay
-  pub pays_all : (now : Millis) (event : Event) (a b : State) (s t : m.State) (x : A) → Paying m now event a s b t [] [] → WorkEnds {A = A} {E = E} m event now a s (Ok x) b t
+  pub pays_all : {K : Type 0} (now : Millis) (event : Event) (a b : State K) (s t : m.State) (x : A) → Paying m now event a s b t [] [] → WorkEnds {A = A} {E = E} m event now a s (Ok x) b t
   pays_all now event a b s t x h = record {
     opened = record { begun = h.begun; settled = h.owes };
     appended = h.appended;
@@ -216,7 +216,7 @@ module _ (m : Mode) {A E : Type 0} where
   }
 
   -- memory ran out for what is owed
-  pub pays_some : (now : Millis) (event : Event) (left : List Event) (groups : List Group) (a b c : State) (s t u : m.State) (done : Result A E) → IsErr done → Paying m now event a s b t left groups → c.trace ≡ b.trace → c.known.setup ≡ b.known.setup → WorkEnds m event now a s done c u
+  pub pays_some : {K : Type 0} (now : Millis) (event : Event) (left : List Event) (groups : List Group) (a b c : State K) (s t u : m.State) (done : Result A E) → IsErr done → Paying m now event a s b t left groups → c.trace ≡ b.trace → c.known.setup ≡ b.known.setup → WorkEnds m event now a s done c u
   pays_some now event left groups a b c s t u (Ok x) fails h kept setup = absurd cc
   pays_some now event left groups a b c s t u (Err e) fails h kept setup = record {
     opened = tt;

@@ -7,8 +7,7 @@ use Rattle.gs_rules.specs.Tables.{Entries, last_moment}
 use Rattle.gs_rules.specs.FellAway.{fell_away}
 use Rattle.gs_router.specs.declared.follower.Followed.{Followed}
 use Rattle.gs_router.specs.declared.follower.Follower.{Follower}
-use Rattle.gs_router.specs.Tables.{Agrees, AgreesOnScores, AreMadeFor}
-use Rattle.gs_router.specs.Known.{ListsExplicit, peer_with}
+use Rattle.gs_router.specs.Watching.{Watches}
 
 -- no entry is earlier than the one before it
 abbrev pub AreInOrder : Entries → Type 0
@@ -21,17 +20,13 @@ pub record Reading : Type 0 where
   pub before : Entries
   pub left : List Entry
 
--- the tables say what the seen entries say
+-- the watcher has seen the entries before a place of the trace
 pub record Follows (f : Follower) (v : Reading) : Type 0 where
-  pub peer : peer_with f.known.setup ≡ v.peer
+  pub watches : Watches f.watcher v.peer v.before
   pub before : v.before ≡ reverse (take f.place (reverse f.trace.now))
   pub left : v.left ≡ drop f.place (reverse f.trace.now)
   pub within : f.place ≤ length f.trace.now
   pub order : AreInOrder f.trace.now
-  pub agrees : Agrees f.known.tables v.before
-  pub scores : AgreesOnScores v.peer f.known.tables.standings v.before
-  pub made : AreMadeFor f.known.tables v.peer
-  pub explicit : ListsExplicit f.known.setup
 
 -- the next entry is seen, with what it shows to have been sent or promised in vain
 pub record Advances (v : Reading) (seen : Followed) (f : Follower) : Type 0 where

@@ -2,9 +2,11 @@ pub mod PeerSets
 pub mod PeerLists
 pub mod Tables
 pub mod Known
+pub mod Log
 pub mod State
 pub mod Router
 pub mod Offers
 pub mod Requests
 pub mod Beats
+pub mod Watching
 pub mod Following

@@ -23,11 +23,11 @@ pub record RouterView : Type 0 where
   pub trace : Entries
   pub is_stopped : Bool
 
-abbrev pub view_of : State → Bool → RouterView
+abbrev pub view_of : {K : Type 0} → State K → Bool → RouterView
 view_of s is_stopped = record { peer = peer_with s.known.setup; trace = s.trace; is_stopped = is_stopped }
 
 -- the trace is legal, and it may go on until the router runs out of memory
-pub record IsSound (s : State) (is_stopped : Bool) : Type 0 where
+pub record IsSound {K : Type 0} (s : State K) (is_stopped : Bool) : Type 0 where
   pub legal : Legal (peer_with s.known.setup) s.trace
   pub ready : is_stopped ≡ false → IsReady s
 

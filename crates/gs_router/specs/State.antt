@@ -13,11 +13,11 @@ use Rattle.gs_router.specs.Tables.{Agrees, AgreesOnScores, AreMadeFor}
 use Rattle.gs_router.specs.Known.{IsFit, peer_with}
 
 -- the peer that a router is
-abbrev pub peer_of : State → Peer
+abbrev pub peer_of : {K : Type 0} → State K → Peer
 peer_of s = peer_with s.known.setup
 
 -- the trace is legal, and the tables say what it says
-pub record IsCurrent (s : State) : Type 0 where
+pub record IsCurrent {K : Type 0} (s : State K) : Type 0 where
   pub legal : Legal (peer_of s) s.trace
   pub agrees : Agrees s.known.tables s.trace
   pub scores : AgreesOnScores (peer_of s) s.known.tables.standings s.trace
@@ -25,11 +25,11 @@ pub record IsCurrent (s : State) : Type 0 where
   pub fit : IsFit s.known.setup
 
 -- this event is owed and comes next
-abbrev pub IsDue : State → Millis → Event → Type 0
+abbrev pub IsDue : {K : Type 0} → State K → Millis → Event → Type 0
 IsDue s now event = IsNext (peer_of s) s.trace now.0 (owed (peer_of s) s.trace).events event
 
 -- The state is current, and nothing is owed. So any event may come that may open.
-pub record IsReady (s : State) : Type 0 where
+pub record IsReady {K : Type 0} (s : State K) : Type 0 where
   pub current : IsCurrent s
   pub settled : owed (peer_of s) s.trace ≡ nothing
 
@@ -49,8 +49,8 @@ pub record Adds (m : Mode) (p : Peer) (event : Event) (now : Millis)
   pub legal : LegalOn m p s K (entry ∷ []) t
 
 -- How a step ends: the event came by choices that lead from s to t, or memory ran out and nothing came.
-pub record Steps {A E : Type 0} (m : Mode) (event : Event) (now : Millis)
-    (old : State) (s : m.State) (result : Result A E) (new : State) (t : m.State) : Type 0 where
+pub record Steps {K A E : Type 0} (m : Mode) (event : Event) (now : Millis)
+    (old : State K) (s : m.State) (result : Result A E) (new : State K) (t : m.State) : Type 0 where
   pub added : OnOk result (Adds m (peer_of old) event now old.trace s new.trace t)
   pub current : OnOk result (IsCurrent new)
   pub kept : OnErr result (new.trace ≡ old.trace)
@@ -62,8 +62,8 @@ BreaksOff p now event K L = (L ≡ K) ⊎ Begins p now event K L
 
 -- How the work on an event ends. The event came with all that it owes, by choices that lead from s to t, or the work broke
 -- off when memory ran out.
-pub record WorkEnds {A E : Type 0} (m : Mode) (event : Event) (now : Millis)
-    (old : State) (s : m.State) (result : Result A E) (new : State) (t : m.State) : Type 0 where
+pub record WorkEnds {K A E : Type 0} (m : Mode) (event : Event) (now : Millis)
+    (old : State K) (s : m.State) (result : Result A E) (new : State K) (t : m.State) : Type 0 where
   pub opened : OnOk result (Opens (peer_of old) now event old.trace new.trace)
   pub appended : OnOk result (Appends m (peer_of old) old.trace s new.trace t)
   pub ready : OnOk result (IsReady new)
@@ -81,7 +81,7 @@ left_with p L events groups = held_or events groups (reached p L groups)
 
 -- An event has begun. By choices from s to t, the trace of a got its entry, and entries for some of what it owes. These
 -- events are left, and then these groups.
-pub record Paying (m : Mode) (now : Millis) (event : Event) (a : State) (s : m.State) (b : State) (t : m.State)
+pub record Paying {K : Type 0} (m : Mode) (now : Millis) (event : Event) (a : State K) (s : m.State) (b : State K) (t : m.State)
     (left : List Event) (groups : List Group) : Type 0 where
   pub current : IsCurrent b
   pub setup : b.known.setup ≡ a.known.setup
@@ -91,19 +91,19 @@ pub record Paying (m : Mode) (now : Millis) (event : Event) (a : State) (s : m.S
   pub appended : Appends m (peer_of a) a.trace s b.trace t
 
 -- these events are left, and no others, in the work on some event
-abbrev pub AreLeft : (m : Mode) → Millis → List Event → State → m.State → Type 0
-AreLeft m now left b t = (event : Event) × (a : State) × (s : m.State) × Paying m now event a s b t left []
+abbrev pub AreLeft : {K : Type 0} → (m : Mode) → Millis → List Event → State K → m.State → Type 0
+AreLeft {K} m now left b t = (event : Event) × (a : State K) × (s : m.State) × Paying m now event a s b t left []
 
 -- in any work where just the first events were left, the second ones are left now
-abbrev pub Pays : (m : Mode) → Millis → List Event → State → m.State → List Event → State → m.State → Type 0
-Pays m now left b t rest c u =
-    (event : Event) (a : State) (s : m.State)
+abbrev pub Pays : {K : Type 0} → (m : Mode) → Millis → List Event → State K → m.State → List Event → State K → m.State → Type 0
+Pays {K} m now left b t rest c u =
+    (event : Event) (a : State K) (s : m.State)
     → Paying m now event a s b t left []
     → Paying m now event a s c u rest []
 
 -- The work on an event reached some state. Then memory ran out, and nothing came since.
-pub record IsCutShort (m : Mode) (now : Millis) (event : Event) (a : State) (s : m.State) (c : State) : Type 0 where
-  pub reached : State
+pub record IsCutShort {K : Type 0} (m : Mode) (now : Millis) (event : Event) (a : State K) (s : m.State) (c : State K) : Type 0 where
+  pub reached : State K
   pub words : m.State
   pub left : List Event
   pub paying : Paying m now event a s reached words left []
@@ -111,6 +111,6 @@ pub record IsCutShort (m : Mode) (now : Millis) (event : Event) (a : State) (s :
   pub setup : c.known.setup ≡ reached.known.setup
 
 -- any work where just these events were left was cut short
-abbrev pub PaysInPart : (m : Mode) → Millis → List Event → State → m.State → State → Type 0
-PaysInPart m now left b t c =
-    (event : Event) (a : State) (s : m.State) → Paying m now event a s b t left [] → IsCutShort m now event a s c
+abbrev pub PaysInPart : {K : Type 0} → (m : Mode) → Millis → List Event → State K → m.State → State K → Type 0
+PaysInPart {K} m now left b t c =
+    (event : Event) (a : State K) (s : m.State) → Paying m now event a s b t left [] → IsCutShort m now event a s c

@@ -1,5 +1,5 @@
 //! Reads a trace that exists already, and says what its peer knew at each entry.
-ghost use Rattle.std.specs.Prelude.{◌≡◌, ◌≤◌, ◌<◌, ◌^◌, ◌∷◌, [], reverse, unsigned_abs, All, IfOk, Some, slice_get};
+ghost use Rattle.std.specs.Prelude.{◌≡◌, ◌≤◌, ◌^◌, ◌∷◌, [], reverse, unsigned_abs, All, IfOk, Some, slice_get};
 ghost use Rattle.gs_base.specs.Names.{peers_of};
 ghost use Rattle.gs_base.specs.declared.neighbour.Neighbour.{Neighbour as NeighbourValue};
 ghost use Rattle.gs_params.specs.Params.{AreInRange};
@@ -8,10 +8,7 @@ ghost use Rattle.gs_rules.specs.Scoring.{score};
 ghost use Rattle.gs_rules.specs.Scored.{parts_of_score, parts_on_topic, topics_of_neighbour};
 ghost use Rattle.gs_router.specs.Following.{AreInOrder, Follows, GoesOn, Reading};
 
-use crate::entries::fallen::fell_away;
-use crate::known::Known;
-use crate::setup::{Setup, explicit_among};
-use crate::tables::Tables;
+use crate::watcher::Watcher;
 use gs_base::{Millis, Neighbour, PeerNo, Topic};
 use gs_params::Params;
 use gs_rules::{Fallen, StoredEntry, Trace};
@@ -22,7 +19,7 @@ use std::alloc::{AllocError, Global};
 /// its answers are unspecified.
 #[derive(Drop)]
 pub struct Follower<'a> {
-    known: Known,
+    watcher: Watcher,
     trace: &'a Trace,
     place: usize,
 }
@@ -59,18 +56,9 @@ impl<'a> Follower<'a> {
           left = reverse trace.now;
         })) }
     {
-        let tables = Tables::new(alloc, &params, neighbours.as_slice())?;
-        let explicit = explicit_among(alloc, neighbours.as_slice())?;
+        let watcher = Watcher::new(alloc, params, neighbours)?;
         Ok(Follower {
-            known: Known {
-                alloc,
-                setup: Setup {
-                    params,
-                    neighbours,
-                    explicit,
-                },
-                tables,
-            },
+            watcher,
             trace,
             place: 0,
         })
@@ -100,8 +88,7 @@ impl<'a> Follower<'a> {
         ensures { IfOk result (λ seen. (v : Reading) → Follows self.old v → GoesOn v (Some seen) self.new) }
     {
         self.trace.prove_length_fits();
-        let fallen = fell_away(&self.known, entry.event(), entry.at())?;
-        self.known.tables.note(entry)?;
+        let fallen = self.watcher.see(entry)?;
         self.place += 1;
         Ok(Followed { entry, fallen })
     }
@@ -110,14 +97,14 @@ impl<'a> Follower<'a> {
     pub fn score(&self, peer: PeerNo, now: Millis) -> i128
         ensures { (v : Reading) → Follows self.now v → result ≡ score v.peer v.before now.0 peer }
     {
-        self.known.tables.standings.score(peer, now)
+        self.watcher.score(peer, now)
     }
 
     /// Returns the parts of a neighbour's score at a moment.
     pub fn score_parts(&self, peer: PeerNo, now: Millis) -> ScoreParts
         ensures { (v : Reading) → Follows self.now v → result ≡ parts_of_score v.peer v.before now.0 peer }
     {
-        self.known.tables.standings.score_parts(peer, now)
+        self.watcher.score_parts(peer, now)
     }
 
     /// Returns the parts of what a topic adds to a neighbour's score at a moment.
@@ -126,7 +113,7 @@ impl<'a> Follower<'a> {
             → Follows self.now v
             → result ≡ parts_on_topic v.peer v.before now.0 peer topic.now }
     {
-        self.known.tables.standings.topic_parts(peer, topic, now)
+        self.watcher.topic_parts(peer, topic, now)
     }
 
     /// Returns the topics on which anything is known about a neighbour, in the order of their bytes.
@@ -138,6 +125,6 @@ impl<'a> Follower<'a> {
             → Follows self.now v
             → list.items ≡ topics_of_neighbour v.peer v.before peer) }
     {
-        self.known.tables.standings.topics(self.known.alloc, peer)
+        self.watcher.topics(peer)
     }
 }

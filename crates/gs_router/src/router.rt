@@ -16,6 +16,7 @@ mod reading;
 use crate::entries;
 use crate::fault::RouterFault;
 use crate::known::Known;
+use crate::log::{Log, Retention, WholeTrace};
 use crate::setup::{Setup, explicit_among};
 use crate::state::State;
 use crate::tables::Tables;
@@ -23,7 +24,7 @@ use gs_base::{Millis, Neighbour};
 use gs_cache::Payloads;
 use gs_params::{Params, Words};
 use gs_plan::Act;
-use gs_rules::{Event, Refusal, Trace};
+use gs_rules::{Event, Refusal};
 use std::alloc::{AllocError, Global};
 use std::marker::Model;
 use std::mem;
@@ -38,13 +39,13 @@ use std::mem;
 /// draws no word. After the router ran out of memory, the trace ends with the last whole entry, and every call is refused
 /// with `Stopped`. After `shut`, every call of the user is refused in the same way.
 #[derive(Drop)]
-pub struct Router {
-    state: State,
+pub struct Router<K: Retention = WholeTrace> {
+    state: State<K>,
     payloads: Payloads,
     is_stopped: bool,
 }
 
-impl Model for Router {
+impl<K: Retention> Model for Router<K> {
     ghost use Rattle.gs_router.specs.Router.{IsSound, RouterView, view_of};
 
     ghost Value = { RouterView };
@@ -54,7 +55,7 @@ impl Model for Router {
     ghost invariant = { λ r. IsSound r.state r.is_stopped };
 }
 
-impl Router {
+impl<K: Retention> Router<K> {
     /// Returns a router that has done nothing. It has these parameters, which are in range, and these neighbours, ascending
     /// by number. The score that the application gives each neighbour is between -10^12 and 10^12 millionths.
     ///
@@ -64,7 +65,7 @@ impl Router {
         alloc: Global,
         params: Params,
         neighbours: Vec<Neighbour>,
-    ) -> Result<Router, AllocError>
+    ) -> Result<Router<K>, AllocError>
         requires in_range { AreInRange params }
         requires ascending { IsAscending (peers_of neighbours.items) }
         requires apps { All (λ (n : NeighbourValue). unsigned_abs n.app ≤ 10 ^ 12) neighbours.items }
@@ -87,7 +88,7 @@ impl Router {
                     },
                     tables,
                 },
-                trace: Trace::new(alloc),
+                trace: Log::new(alloc),
             },
             payloads: Payloads::new(alloc),
             is_stopped: false,

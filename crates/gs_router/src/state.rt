@@ -17,11 +17,12 @@ mod scores;
 
 use crate::entries;
 use crate::known::Known;
+use crate::log::{Log, Retention};
 use gs_base::{Millis, PeerNo, Rpc, Seq, Shared};
 use gs_cache::Payloads;
 use gs_params::Words;
 use gs_plan::Act;
-use gs_rules::{Entry, Event, StoredEntry, Trace};
+use gs_rules::{Entry, Event, StoredEntry};
 use std::alloc::AllocError;
 
 /// A router's setup, its trace, and the tables that the trace determines.
@@ -29,12 +30,12 @@ use std::alloc::AllocError;
 /// After a failed step the trace ends with the last whole entry. The tables may no longer agree with the trace, so no
 /// further step can be taken.
 #[derive(Drop)]
-pub struct State {
+pub struct State<K: Retention> {
     pub known: Known,
-    pub trace: Trace,
+    pub trace: Log<K>,
 }
 
-impl State {
+impl<K: Retention> State<K> {
     /// Brings every table up to date from an entry, and adds that to the trace.
     ///
     /// # Errors
@@ -57,7 +58,7 @@ impl State {
         self.trace.prove_length_fits();
         let stored = StoredEntry::new(self.known.alloc, entry)?;
         self.known.tables.note(&stored)?;
-        self.trace.push_stored(stored)
+        self.trace.push(self.known.alloc, stored)
     }
 
     /// Does what the rule says about the event that comes next.

@@ -138,6 +138,8 @@ impl Trace {
     ///
     /// # Errors
     /// `AllocError` when out of memory; the trace is then as it was.
+    // Routers call it from two places, and it moves an entry.
+    #[inline(always)]
     pub fn push_stored(&mut self, entry: StoredEntry) -> Result<(), AllocError>
         ensures ok { OnOk result (self.new ≡ entry ∷ self.old) }
         ensures err { OnErr result (self.new ≡ self.old) }

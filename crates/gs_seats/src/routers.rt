@@ -7,19 +7,19 @@ ghost use Rattle.gs_seats.specs.Routers.{new_router};
 use gs_base::{Neighbour, PeerNo, clone_of};
 use gs_params::SeededWords;
 use gs_plan::Plan;
-use gs_router::Router;
+use gs_router::{Retention, Router};
 use std::alloc::{AllocError, Global};
 
 /// Returns the router of a peer with these neighbours, which has done nothing.
 ///
 /// # Errors
 /// `AllocError` when out of memory.
-pub fn router_of(
+pub fn router_of<K: Retention>(
     alloc: Global,
     plan: &Plan,
     number: PeerNo,
     neighbours: Vec<Neighbour>,
-) -> Result<Router, AllocError>
+) -> Result<Router<K>, AllocError>
     requires range { IsInRange plan.now }
     requires neighbours { neighbours.items ≡ neighbours_in plan.now number }
     ensures { IfOk result (λ router. router ≡ new_router plan.now number) }

@@ -9,12 +9,13 @@ ghost use Rattle.gs_wire.specs.Codec.{codec};
 ghost use Rattle.gs_router.specs.Router.{Calls};
 
 use crate::fault::RouterFault;
+use crate::log::Retention;
 use crate::router::{Router, ended};
 use gs_base::{Millis, PeerNo, Rpc, Shared};
 use gs_params::Words;
 use gs_rules::{Event, Loss, Refusal};
 
-impl Router {
+impl<K: Retention> Router<K> {
     /// Hears an RPC that came from a neighbour and fits a frame, as every RPC from a reader does. If the neighbour is not
     /// up, the RPC is late and has no effect. If the neighbour is on the graylist, no part of the RPC has an effect
     /// (gossipsub v1.1, "Score Thresholds").

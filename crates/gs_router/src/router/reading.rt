@@ -1,22 +1,24 @@
 //! What a router reports about itself: its trace, its neighbours and their scores, its meshes.
-ghost use Rattle.std.specs.Prelude.{◌≡◌, false, IfOk};
+ghost use Rattle.std.specs.Prelude.{◌≡◌, false, reverse, IfOk};
 ghost use Rattle.gs_rules.specs.Tables.{last_moment, up};
 ghost use Rattle.gs_rules.specs.Meshes.{mesh};
 ghost use Rattle.gs_rules.specs.Scoring.{score};
 ghost use Rattle.gs_rules.specs.Results.{meshes_of, scores_of};
+ghost use Rattle.gs_router.specs.Log.{this_round};
 
+use crate::log::{Retention, WholeTrace};
 use crate::router::Router;
 use crate::state::State;
 use gs_base::{Millis, PeerNo, Seq, Topic};
-use gs_rules::Trace;
+use gs_rules::{StoredEntry, Trace};
 use std::alloc::AllocError;
 
-impl Router {
+impl Router<WholeTrace> {
     /// Returns all that the router did, entry by entry.
     pub fn trace(&self) -> &Trace
         ensures { result.now ≡ self.now.trace }
     {
-        &self.state.trace
+        self.state.trace.trace()
     }
 
     /// Consumes the router, and returns all that it did.
@@ -25,7 +27,17 @@ impl Router {
     {
         let Router { state, .. } = self;
         let State { trace, .. } = state;
-        trace
+        trace.into_trace()
+    }
+}
+
+impl<K: Retention> Router<K> {
+    /// Returns what the router did in the round in which it is, the oldest entry first. After the end of a round, this is
+    /// the round that has ended, until the next entry.
+    pub fn round(&self) -> &[StoredEntry]
+        ensures { result.now ≡ reverse (this_round self.now.trace) }
+    {
+        self.state.trace.round()
     }
 
     /// Returns the moment of the last entry, or 0 if there is none.

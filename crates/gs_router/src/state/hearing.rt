@@ -14,6 +14,7 @@ ghost use Rattle.gs_rules.specs.Modes.{exact};
 ghost use Rattle.gs_rules.specs.Legal.{MayHear};
 ghost use Rattle.gs_router.specs.State.{AreLeft, IsReady, Pays, PaysInPart, WorkEnds, peer_of};
 
+use crate::log::Retention;
 use crate::state::State;
 use gs_base::{
     Graft, IHave, IWant, Message, Millis, Part, PeerNo, Prune, Rpc, Shared, SharedPart, SubOpt,
@@ -98,7 +99,7 @@ impl HeardPart for Prune {
     }
 }
 
-impl State {
+impl<K: Retention> State<K> {
     /// Hears an RPC of a neighbour that is up and not on the graylist, and all its parts.
     pub fn hear_up<W: Words>(
         &mut self,

@@ -14,6 +14,7 @@ ghost use Rattle.gs_router.specs.Beats.{event_of};
 ghost use Rattle.gs_router.specs.Tables.{Agrees};
 ghost use Rattle.gs_router.specs.State.{IsCurrent, IsDue, IsReady, Steps, WorkEnds, peer_of};
 
+use crate::log::Retention;
 use crate::state::State;
 use gs_base::{Millis, Topic, clone_of};
 use gs_params::Words;
@@ -38,7 +39,7 @@ fn is_stale(time: u64, now: Millis, published: Option<Millis>) -> bool
     }
 }
 
-impl State {
+impl<K: Retention> State<K> {
     /// Does a heartbeat: ends promises, mends meshes and fanouts, gossips on each topic that has something to gossip, and
     /// ends the heartbeat.
     pub fn heartbeat<W: Words>(&mut self, now: Millis, words: &mut W) -> Result<(), AllocError>

@@ -5,11 +5,12 @@ ghost use Rattle.gs_rules.specs.Meshes.{mesh};
 ghost use Rattle.gs_router.specs.Tables.{Agrees};
 ghost use Rattle.gs_rules.specs.Results.{meshes_of};
 
+use crate::log::Retention;
 use crate::state::State;
 use gs_base::{PeerNo, Seq, Topic, clone_of};
 use std::alloc::AllocError;
 
-impl State {
+impl<K: Retention> State<K> {
     /// Returns the members of the meshes of the router's own topics. Topics stand by their bytes, members by number.
     pub fn meshes(&self) -> Result<Seq<(Topic, PeerNo)>, AllocError>
         ensures { IfOk result (λ meshes. (L : Entries) → Agrees self.now.known.tables L → meshes ≡ meshes_of L) }

@@ -4,11 +4,12 @@ ghost use Rattle.gs_router.specs.Tables.{AgreesOnScores};
 ghost use Rattle.gs_router.specs.State.{peer_of};
 ghost use Rattle.gs_rules.specs.Results.{scores_of};
 
+use crate::log::Retention;
 use crate::state::State;
 use gs_base::{Millis, PeerNo, Seq};
 use std::alloc::AllocError;
 
-impl State {
+impl<K: Retention> State<K> {
     /// Returns the scores of all neighbours at a moment, by number.
     pub fn scores(&self, now: Millis) -> Result<Seq<(PeerNo, i128)>, AllocError>
         ensures { IfOk result (λ scores. (L : Entries)

@@ -1,7 +1,9 @@
 //! Reports of runs on one thread, compared with reports that were worked out by hand.
-use gs_direct::run_direct;
+use gs_base::PeerNo;
+use gs_direct::{Observer, run_direct, run_observed};
 use gs_plan::Limits;
 use gs_report::report_text;
+use gs_rules::StoredEntry;
 use gs_scenario::read_plan;
 use std::alloc::{AllocError, AllocGlobal};
 use std::test::*;
@@ -167,5 +169,70 @@ fn bytes_that_spell_an_rpc_are_heard_as_one(rt: HostRuntime) -> Result<(), Fail>
 #[test]
 fn a_peer_that_hangs_up_hears_no_more(rt: HostRuntime) -> Result<(), Fail> {
     assert!(rt; is_reported(&rt, HANG_UP, HUNG_UP)?);
+    Ok(())
+}
+
+/// What peers deliver to their users: who, when, and the first byte of the payload. It is in the order in which an observer
+/// sees it.
+#[derive(Drop)]
+struct Deliveries(Vec<(u16, u64, u8)>);
+
+impl Observer for Deliveries {
+    ghost saw = { λ deliveries traces. Unit {0} };
+
+    fn see(&mut self, peer: PeerNo, entries: &[StoredEntry]) -> Result<(), AllocError> {
+        for entry in entries {
+            for (_, payload) in entry.delivered() {
+                if let Some(first) = payload.as_slice().first() {
+                    self.0.push((peer.0, entry.at().0, *first))?;
+                }
+            }
+        }
+        Ok(())
+    }
+}
+
+/// What an observer of the three peers with these further lines sees them deliver. It also gives how many members their
+/// meshes have, and how many neighbours they score.
+fn observed<R: AllocGlobal>(
+    rt: &R,
+    lines: &str,
+) -> Result<Option<(Deliveries, Vec<usize>, Vec<usize>)>, AllocError> {
+    let mut scenario = String::from_str(rt.alloc(), THREE)?;
+    scenario.push_str(lines)?;
+    let Ok(plan) = read_plan(rt.alloc(), Limits::Standard, &scenario) else {
+        return Ok(None);
+    };
+    let mut deliveries = Deliveries(Vec::new(rt.alloc()));
+    let Ok(remains) = run_observed(rt.alloc(), &plan, &mut deliveries) else {
+        return Ok(None);
+    };
+    let mut members = Vec::new(rt.alloc());
+    let mut scored = Vec::new(rt.alloc());
+    for (_, left) in remains {
+        members.push(left.meshes.len())?;
+        scored.push(left.scores.len())?;
+    }
+    Ok(Some((deliveries, members, scored)))
+}
+
+/// The peers of `GARBAGE` deliver what its report says, round by round, and in a round by number.
+#[test]
+fn an_observer_sees_each_peer_in_each_round(rt: HostRuntime) -> Result<(), Fail> {
+    let Some((deliveries, members, scored)) = observed(&rt, GARBAGE)? else {
+        assert!(rt; false);
+        return Ok(());
+    };
+    let wanted: &[(u16, u64, u8)] = &[
+        (2, 800, 2),
+        (2, 800, 3),
+        (0, 900, 2),
+        (1, 1000, 2),
+        (1, 1200, 4),
+        (0, 1300, 4),
+    ];
+    assert!(rt; deliveries.0.as_slice() == wanted);
+    assert!(rt; members.as_slice() == [1, 1, 0].as_slice());
+    assert!(rt; scored.as_slice() == [2, 1, 1].as_slice());
     Ok(())
 }

@@ -8,7 +8,7 @@ use Rattle.gs_direct.proofs.Heard.{if_told}
 use Rattle.gs_direct.proofs.peer.hear.Goals as goal
 
 pub returns : goal.returns
-returns c =
+returns g c =
     let m = exact seeded_word seeded_after in
     let letter = c.args.letter in
     if_told c.hear_ending.result _ _

@@ -15,7 +15,7 @@ use Rattle.gs_direct.proofs.Heard.{if_told}
 use Rattle.gs_direct.proofs.peer.hear_ending.Goals as goal
 
 pub returns-in-Some-Fault : goal.returns-in-Some-Fault
-returns-in-Some-Fault c =
+returns-in-Some-Fault g c =
     let m = exact seeded_word seeded_after in
     let v = c.args.router.now in
     let q = c.args.from in
@@ -24,7 +24,7 @@ returns-in-Some-Fault c =
     (if_told c.never_refused.result _ _ (λ ok. told_runs m c.args.now (HearFault q) (losing v.trace q (events.Lost q losses.Fault)) v c.fault.new.self c.args.words.now c.fault.new.words c.fault.result ok refl refl c.requires c.fault.ensures) c.never_refused.ensures)
 
 pub returns-in-Some-Gone : goal.returns-in-Some-Gone
-returns-in-Some-Gone c =
+returns-in-Some-Gone g c =
     let m = exact seeded_word seeded_after in
     let v = c.args.router.now in
     let q = c.args.from in

@@ -9,10 +9,10 @@ use Rattle.gs_player.proofs.Runs.{runs_then, call_runs}
 use Rattle.gs_direct.proofs.peer.hear_rpcs.Goals as goal
 
 pub hear_shared-requires-clause-fits : goal.hear_shared-requires-clause-fits
-hear_shared-requires-clause-fits c = (subst RpcsFit c.in-Some.ensures.steps.0 c.loop-rpc.invariant.3).0
+hear_shared-requires-clause-fits g c = (subst RpcsFit c.in-Some.ensures.steps.0 c.loop-rpc.invariant.3).0
 
 pub loop-rpc-preserved : goal.loop-rpc-preserved
-loop-rpc-preserved c =
+loop-rpc-preserved g c =
     let m = exact seeded_word seeded_after in
     let v = c.loop-rpc.router in
     let now = c.args.now in

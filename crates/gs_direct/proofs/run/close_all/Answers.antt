@@ -7,13 +7,13 @@ use Rattle.gs_direct.proofs.Times.{last_round}
 use Rattle.gs_direct.proofs.run.close_all.Goals as goal
 
 pub bounds-peers-from : goal.bounds-peers-from
-bounds-peers-from c =
+bounds-peers-from g c =
     let plan = c.args.plan.now in
     let below : c.loop-number.number < length plan.peers = search rules in
     omega (arith, c.from.ensures, c.loop-number.invariant.closed.many, as_many (IsAt plan (suc plan.rounds) c.args.peers.now) plan c.args.peers.now c.requires.last.each, below)
 
 pub close-requires-clause-running : goal.close-requires-clause-running
-close-requires-clause-running c =
+close-requires-clause-running g c =
     let plan = c.args.plan.now in
     let n = c.loop-number.number in
     let below : n < length plan.peers = search rules in
@@ -21,7 +21,7 @@ close-requires-clause-running c =
     next_runs plan (suc plan.rounds) c.args.peers.now c.loop-number.peers c.args.post.now.mail.items n next (record { 0 = plan.rounds * plan.round_ms }) c.index-peers-from.result c.from.result c.from.ensures (last_round plan.rounds plan.round_ms)
 
 pub close-requires-clause-fit : goal.close-requires-clause-fit
-close-requires-clause-fit c =
+close-requires-clause-fit g c =
     let plan = c.args.plan.now in
     let n = c.loop-number.number in
     let below : n < length plan.peers = search rules in
@@ -29,7 +29,7 @@ close-requires-clause-fit c =
     subst LettersFit (sym (c.take-letters.ensures.taken ∙ c.loop-number.invariant.waits n (omega arith))) next.fit
 
 pub loop-number-preserved : goal.loop-number-preserved
-loop-number-preserved c =
+loop-number-preserved g c =
     let plan = c.args.plan.now in
     let n = c.loop-number.number in
     let below : n < length plan.peers = search rules in

@@ -10,4 +10,4 @@ invariant-loop-peer l =
     (goal.iterator-loop-peer).can_next l.peer-iterator
     × (goal.iterator-loop-peer).is_finite l.peer-iterator
     × (l.lives.items ≡ map (numbered l.plan) l.yielded)
-    × AllByRecursion (λ (peer : Peer). peer.router.is_stopped ≡ false) l.peer-iterator.rest.items
+    × AllByRecursion (λ (peer : Peer _). peer.router.is_stopped ≡ false) l.peer-iterator.rest.items

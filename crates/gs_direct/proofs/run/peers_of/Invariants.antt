@@ -7,7 +7,7 @@ use Rattle.gs_direct.proofs.run.peers_of.Given as goal
 
 -- those so far are new peers, and the others' lines are there
 abbrev pub invariant-loop-number : goal.invariant-loop-number
-invariant-loop-number l = record {
+invariant-loop-number g l = record {
   new : AllZip (IsNewPeer l.plan) (map peer_no (range_with_len 0 l.number)) l.peers.items;
   lists : length l.lines.items ≡ length l.plan.peers;
   own : (k : ℕ) → l.number ≤ k → k < length l.plan.peers → list_at l.lines.items k ≡ lines_in l.plan (peer_no k);

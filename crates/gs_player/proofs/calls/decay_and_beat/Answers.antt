@@ -8,7 +8,7 @@ use Rattle.gs_player.proofs.Runs.{runs_then}
 use Rattle.gs_player.proofs.calls.decay_and_beat.Goals as goal
 
 pub returns : goal.returns
-returns c =
+returns g c =
     let m = exact seeded_word seeded_after in
     let now = c.args.now in
     let r = c.args.round in

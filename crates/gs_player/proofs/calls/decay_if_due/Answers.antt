@@ -9,7 +9,7 @@ use Rattle.gs_player.proofs.Runs.{told_runs}
 use Rattle.gs_player.proofs.calls.decay_if_due.Goals as goal
 
 pub returns : goal.returns
-returns c =
+returns g c =
     let m = exact seeded_word seeded_after in
     let v = c.args.router.now in
     let now = c.args.now in

@@ -8,7 +8,7 @@ use Rattle.gs_player.proofs.Runs.{runs_then}
 use Rattle.gs_player.proofs.calls.follow_all.Goals as goal
 
 pub loop-line-preserved : goal.loop-line-preserved
-loop-line-preserved c =
+loop-line-preserved g c =
     let (done, more, noted, runs, rest) = c.loop-line.invariant in
     let (new, added, runs_line) = c.in_ok-follow.ensures in
     let line = c.line-item.result in (

@@ -7,7 +7,7 @@ use Rattle.gs_player.specs.Playing.{Runs}
 use Rattle.gs_player.proofs.calls.follow_all.Given as goal
 
 abbrev pub invariant-loop-line : goal.invariant-loop-line
-invariant-loop-line l =
+invariant-loop-line g l =
     (done : List Todo) × (more : List RefusedLine)
     × (l.refused.items ≡ l.fn.refused.items ++ more)
     × Runs (exact seeded_word seeded_after) l.now done l.fn.router l.fn.words l.router l.words more

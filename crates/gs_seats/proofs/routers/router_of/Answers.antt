@@ -9,10 +9,10 @@ use Rattle.gs_seats.proofs.Within.{apps_within, params_in_range}
 use Rattle.gs_seats.proofs.routers.router_of.Goals as goal
 
 pub new-requires-clause-in_range : goal.new-requires-clause-in_range
-new-requires-clause-in_range c = subst AreInRange (sym c.in_ok-params.ensures) (params_in_range c.args.plan.now c.requires.range)
+new-requires-clause-in_range g c = subst AreInRange (sym c.in_ok-params.ensures) (params_in_range c.args.plan.now c.requires.range)
 
 pub new-requires-clause-ascending : goal.new-requires-clause-ascending
-new-requires-clause-ascending c = subst (λ (ns : List Neighbour). IsAscending (peers_of ns)) (sym c.requires.neighbours) (links_ascend c.args.plan.now c.args.number)
+new-requires-clause-ascending g c = subst (λ (ns : List Neighbour). IsAscending (peers_of ns)) (sym c.requires.neighbours) (links_ascend c.args.plan.now c.args.number)
 
 pub new-requires-clause-apps : goal.new-requires-clause-apps
-new-requires-clause-apps c = subst (λ (ns : List Neighbour). All (λ (n : Neighbour). unsigned_abs n.app ≤ 10 ^ 12) ns) (sym c.requires.neighbours) (apps_within c.args.plan.now c.args.number c.requires.range)
+new-requires-clause-apps g c = subst (λ (ns : List Neighbour). All (λ (n : Neighbour). unsigned_abs n.app ≤ 10 ^ 12) ns) (sym c.requires.neighbours) (apps_within c.args.plan.now c.args.number c.requires.range)

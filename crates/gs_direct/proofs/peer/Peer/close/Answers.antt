@@ -8,12 +8,12 @@ use Rattle.gs_direct.specs.Letters.{all_heard}
 use Rattle.gs_direct.proofs.peer.Peer.close.Goals as goal
 
 pub hear-requires-clause-running : goal.hear-requires-clause-running
-hear-requires-clause-running c =
+hear-requires-clause-running g c =
     let p = c.args.self.now in
     (told_runs (exact seeded_word seeded_after) c.args.now Stop (Some Shut) p.router c.shut.new.self p.words c.shut.new.words c.shut.result c.in_ok-never_refused.ensures refl refl c.requires.running c.shut.ensures).runs_on
 
 pub returns : goal.returns
-returns c =
+returns g c =
     let m = exact seeded_word seeded_after in
     let p = c.args.self.now in
     let q = c.hear.new.self in

@@ -8,7 +8,7 @@ use Rattle.gs_direct.proofs.Heard.{named_so}
 use Rattle.gs_direct.proofs.peer.Peer.new.Goals as goal
 
 pub returns : goal.returns
-returns c =
+returns g c =
     let plan = c.args.plan.now in
     let p = c.args.number in
     let same : c.deref.result.now ≡ neighbours_in plan p = search rules in

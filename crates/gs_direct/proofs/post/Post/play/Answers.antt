@@ -1,18 +1,17 @@
-use Rattle.std.proofs.Common.{◌∙◌, ◌++◌, List, Vec, Global, length, refl, sym, ap, subst}
+use Rattle.std.proofs.Common.{◌∙◌, ◌++◌, List, Vec, Global, length, reverse, refl, sym, ap, subst}
 use Rattle.std.specs.List.{AllByRecursion}
+use Rattle.gs_router.specs.Log.{this_round}
 use Rattle.gs_router.specs.Router.{RouterView}
 use Rattle.gs_seats.specs.ListsByPeer.{list_at}
-use Rattle.gs_player.specs.Playing.{behind_heard}
 use Rattle.gs_direct.specs.declared.letter.Letter.{Letter}
 use Rattle.gs_direct.specs.declared.peer.Peer.{Peer}
-use Rattle.gs_direct.specs.Letters.{all_heard}
 use Rattle.gs_direct.specs.Outlets.{Within, given}
 use Rattle.gs_direct.specs.Peers.{PlaysRound}
-use Rattle.gs_direct.proofs.Heard.{told_within}
+use Rattle.gs_direct.proofs.Heard.{still_within}
 use Rattle.gs_direct.proofs.post.Post.play.Goals as goal
 
 pub hand_over-requires : goal.hand_over-requires
-hand_over-requires c =
+hand_over-requires g c =
     let r = c.args.round in
     let now = c.args.now in
     let letters = c.take-letters.result.items in
@@ -21,14 +20,14 @@ hand_over-requires c =
     let plays : PlaysRound r now letters old played =
     subst (λ (v : RouterView). PlaysRound r now letters (record old { router = v }) played) c.exchange_payloads.ensures c.in_ok-play.ensures in
     subst (λ (mail : Vec (Vec Letter Global) Global). AllByRecursion (Within (length mail.items)) played.outlets.items) (sym c.take-letters.ensures.next)
-    (told_within (length c.args.self.now.next.items) now (all_heard letters ++ behind_heard old.router.peer r now old.agenda) old.router played.router old.words played.words plays.more old.outlets.items played.outlets.items plays.runs plays.tells c.requires.within)
+    (still_within (length c.args.self.now.next.items) (reverse (this_round played.router.trace)) old.outlets.items played.outlets.items plays.tells c.requires.within)
 
 pub returns-clause-turns : goal.returns-clause-turns
-returns-clause-turns c =
+returns-clause-turns g c =
     let r = c.args.round in
     let now = c.args.now in
     let old = c.args.peer.now in
-    let played : Peer = record c.play.new.self { router = c.exchange_payloads-2.new.self } in
+    let played : Peer _ = record c.play.new.self { router = c.exchange_payloads-2.new.self } in
     let plays : PlaysRound r now c.take-letters.result.items old c.play.new.self =
     subst (λ (v : RouterView). PlaysRound r now c.take-letters.result.items (record old { router = v }) c.play.new.self) c.exchange_payloads.ensures c.in_ok-play.ensures in
     let exchanged : PlaysRound r now c.take-letters.result.items old played =

@@ -11,13 +11,13 @@ use Rattle.gs_router.specs.Tables.{Agrees, AgreesOnScores}
 use Rattle.gs_router.proofs.router.Router.new.Goals as goal
 
 pub new-requires-clause-ascending : goal.new-requires-clause-ascending
-new-requires-clause-ascending c = subst (λ (ns : List Neighbour). IsAscending (peers_of ns)) (sym c.as_slice.ensures.value) c.requires.ascending
+new-requires-clause-ascending g c = subst (λ (ns : List Neighbour). IsAscending (peers_of ns)) (sym c.as_slice.ensures.value) c.requires.ascending
 
 pub new-requires-clause-apps : goal.new-requires-clause-apps
-new-requires-clause-apps c = subst (λ (ns : List Neighbour). All (λ (n : Neighbour). unsigned_abs n.app ≤ 10 ^ 12) ns) (sym c.as_slice.ensures.value) c.requires.apps
+new-requires-clause-apps g c = subst (λ (ns : List Neighbour). All (λ (n : Neighbour). unsigned_abs n.app ≤ 10 ^ 12) ns) (sym c.as_slice.ensures.value) c.requires.apps
 
 pub invariant_of-result : goal.invariant_of-result
-invariant_of-result c =
+invariant_of-result g c =
     let p : Peer = record { params = c.args.params; neighbours = c.args.neighbours.items } in
     let legal = subst (λ (L : Entries). Legal p L) (sym c.new-2.ensures) refl in
     record {

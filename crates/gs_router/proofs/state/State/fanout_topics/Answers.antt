@@ -5,7 +5,7 @@ use Rattle.gs_rules.specs.Meshes.{has_fanout}
 use Rattle.gs_router.proofs.state.State.fanout_topics.Goals as goal
 
 pub returns : goal.returns
-returns c =
+returns g c =
     let s = c.args.self.now in
     let items : List Topic = c.as_slice-topic-items.result.now in
     let none = drop_all c.loop-topic.topic-index items (omega (arith, c.loop-topic-test.false)) in

@@ -7,7 +7,7 @@ use Rattle.gs_router.specs.Known.{peer_with}
 use Rattle.gs_router.proofs.state.State.gossip_topics.Goals as goal
 
 pub returns : goal.returns
-returns c =
+returns g c =
     let s = c.args.self.now in
     let items : List Topic = c.as_slice-topic-items.result.now in
     let none = drop_all c.loop-topic.topic-index items (omega (arith, c.loop-topic-test.false)) in

@@ -5,6 +5,6 @@ use Rattle.gs_router.specs.Known.{peer_with}
 use Rattle.gs_router.proofs.state.State.gossip_topics.Given as goal
 
 abbrev pub invariant-loop-topic : goal.invariant-loop-topic
-invariant-loop-topic l =
+invariant-loop-topic g l =
     l.topics.items ++ filter (λ t. is_some_list (gossip (peer_with l.self.known.setup) l.self.trace t)) (drop l.topic-index l.topic-items)
     ≡ filter (λ t. is_some_list (gossip (peer_with l.self.known.setup) l.self.trace t)) l.topic-items

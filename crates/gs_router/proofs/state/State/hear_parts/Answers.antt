@@ -4,7 +4,6 @@ use Rattle.gs_base.specs.declared.rpc.Rpc.{Rpc as RpcValue}
 use Rattle.gs_base.specs.Rpcs.{part_at}
 use Rattle.gs_rules.specs.declared.event.Event.{Event as EventValue}
 use Rattle.gs_rules.specs.Modes.{exact}
-use Rattle.gs_router.specs.declared.state.State.{State}
 use Rattle.gs_router.specs.State.{AreLeft, Pays}
 use Rattle.gs_rules.specs.Parts.{events_of}
 use Rattle.gs_router.proofs.Hearing.{on_err, part_is_due, part_is_paid}
@@ -50,7 +49,7 @@ loop-place-preserved g c =
     let is : c.heard_at-part.result ≡ g.P.HeardPart.as_part (part_at g.P.Part.bare (g.P.Part.parts c.args.rpc.now) c.loop-place.place) =
     c.heard_at-part.ensures ∙ ap (λ (rpc : RpcValue). g.P.HeardPart.as_part (part_at g.P.Part.bare (g.P.Part.parts rpc) c.loop-place.place)) c.in_ok-clone_of.ensures in
     let left = c.loop-place.invariant.0 in
-    let paid = λ (event : EventValue) (a : State) (s : g.row.W.Denot).
+    let paid = λ (event : EventValue) (a : _) (s : g.row.W.Denot).
     part_is_paid (exact g.W.Words.word g.W.Words.after) c.args.now c.args.from g.P.HeardPart.as_part g.P.Part.bare (g.P.Part.parts c.args.rpc.now) (g.P.HeardPart.after c.args.from c.args.rpc.now) c.loop-place.place c.heard_at-part.result below is event a c.loop-place.self c.step_with.new.self s c.loop-place.words c.step_with.new.words c.in_ok-step_with.field-0 c.in_ok-step_with.ensures in
     ((left.0, left.1, left.2, paid left.0 left.1 left.2 left.3), λ event a s h. paid event a s (c.loop-place.invariant.1 event a s h))
 

@@ -13,7 +13,7 @@ use Rattle.gs_router.specs.Beats.{event_of}
 use Rattle.gs_router.specs.Known.{peer_with}
 use Rattle.gs_router.specs.State.{Paying}
 use Rattle.gs_router.proofs.Beating.{due_owes_none}
-use Rattle.gs_router.proofs.Steps.{beats_first, next_left, pays_all, pays_group, pays_next, pays_some, stops}
+use Rattle.gs_router.proofs.Steps.{beats_first, next_due, next_left, pays_all, pays_group, pays_next, pays_some, stops}
 use Rattle.gs_router.proofs.state.State.heartbeat.Goals as goal
 
 pub returns-in_err-step : goal.returns-in_err-step
@@ -34,6 +34,14 @@ loop-own-init g c =
     let topics = c.as_slice-own-items.ensures.value ∙ c.in_ok-own_topics.ensures b.trace c.in_ok-step.ensures.current.agrees.topics in
     let begun = beats_first m c.args.now a b c.args.words.now c.step.new.words c.in_ok-step.field-0 c.in_ok-step.ensures in
     subst (λ (ts : List Topic). Paying m c.args.now BeatBegin a c.args.words.now b c.step.new.words (map (λ t. Step (MeshBeat t)) ts) (FanBeats c.args.now.0 ∷ Gossips ∷ [])) (sym topics) (pays_group m c.args.now BeatBegin MeshBeats (FanBeats c.args.now.0 ∷ Gossips ∷ []) a b c.args.words.now c.step.new.words begun)
+
+pub mend_mesh-requires-clause-next : goal.mend_mesh-requires-clause-next
+mend_mesh-requires-clause-next g c =
+    let m = exact g.W.Words.word g.W.Words.after in
+    let topics : List Topic = c.as_slice-own-items.result.now in
+    let here = next_left topics c.loop-own.own-index c.own-item.result c.loop-own-test.true c.own-item.is in
+    let due = subst (λ (left : List Topic). Paying m c.args.now BeatBegin c.args.self.now c.args.words.now c.loop-own.self c.loop-own.words (map (λ t. Step (MeshBeat t)) left) (FanBeats c.args.now.0 ∷ Gossips ∷ [])) here c.loop-own.invariant in
+    next_due m c.args.now BeatBegin (Step (MeshBeat c.own-item.result)) (map (λ t. Step (MeshBeat t)) (drop (c.loop-own.own-index + 1) topics)) (FanBeats c.args.now.0 ∷ Gossips ∷ []) c.args.self.now c.loop-own.self c.args.words.now c.loop-own.words due
 
 pub loop-own-preserved : goal.loop-own-preserved
 loop-own-preserved g c =
@@ -60,6 +68,14 @@ loop-fanout-init g c =
     ∙ c.in_ok-fanouts.ensures
     ∙ ap (λ (s : Setup). events_in (peer_with s) b.trace (FanBeats c.args.now.0)) c.loop-own.invariant.setup in
     subst (λ (es : List Event). Paying m c.args.now BeatBegin a c.args.words.now b c.loop-own.words es (Gossips ∷ [])) (sym due) (pays_group m c.args.now BeatBegin (FanBeats c.args.now.0) (Gossips ∷ []) a b c.args.words.now c.loop-own.words all)
+
+pub mend_fanout-requires-clause-next : goal.mend_fanout-requires-clause-next
+mend_fanout-requires-clause-next g c =
+    let m = exact g.W.Words.word g.W.Words.after in
+    let fanouts : List DueFanout = c.as_slice-fanout-items.result.now in
+    let here = next_left fanouts c.loop-fanout.fanout-index c.fanout-item.result c.loop-fanout-test.true c.fanout-item.is in
+    let due = subst (λ (left : List DueFanout). Paying m c.args.now BeatBegin c.args.self.now c.args.words.now c.loop-fanout.self c.loop-fanout.words (map event_of left) (Gossips ∷ [])) here c.loop-fanout.invariant in
+    next_due m c.args.now BeatBegin (event_of c.fanout-item.result) (map event_of (drop (c.loop-fanout.fanout-index + 1) fanouts)) (Gossips ∷ []) c.args.self.now c.loop-fanout.self c.args.words.now c.loop-fanout.words due
 
 pub loop-fanout-preserved : goal.loop-fanout-preserved
 loop-fanout-preserved g c =

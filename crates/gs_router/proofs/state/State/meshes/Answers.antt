@@ -14,7 +14,7 @@ abbrev members_on : Entries → Topic → List (Topic × PeerNo)
 members_on L t = map (λ (q : PeerNo). (t, q)) (mesh L t)
 
 pub loop-topic-preserved : goal.loop-topic-preserved
-loop-topic-preserved c = λ L agrees.
+loop-topic-preserved g c = λ L agrees.
     let topics : List Topic = c.as_slice-topic-items.result.now in
     let rest = drop (c.loop-topic.topic-index + 1) topics in
     let item = c.topic-item.result in

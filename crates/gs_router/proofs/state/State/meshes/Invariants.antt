@@ -8,7 +8,7 @@ use Rattle.gs_router.specs.Tables.{Agrees}
 use Rattle.gs_router.proofs.state.State.meshes.Given as goal
 
 abbrev pub invariant-loop-topic : goal.invariant-loop-topic
-invariant-loop-topic l =
+invariant-loop-topic g l =
     (L : Entries) → Agrees l.self.known.tables L
     → l.meshes ++ flat_map (λ (t : Topic). map (λ (q : PeerNo). (t, q)) (mesh L t)) (drop l.topic-index l.topic-items)
     ≡ flat_map (λ (t : Topic). map (λ (q : PeerNo). (t, q)) (mesh L t)) l.topic-items

@@ -7,7 +7,7 @@ use Rattle.gs_router.specs.Known.{peer_with}
 use Rattle.gs_router.proofs.state.State.scores.Given as goal
 
 abbrev pub invariant-loop-neighbour : goal.invariant-loop-neighbour
-invariant-loop-neighbour l =
+invariant-loop-neighbour g l =
     (L : Entries) → AgreesOnScores (peer_with l.self.known.setup) l.self.known.tables.standings L
     → l.scores ++ map (λ q. (q, score (peer_with l.self.known.setup) L l.now.0 q)) (peers_of (drop l.neighbour-index l.neighbour-items))
     ≡ map (λ q. (q, score (peer_with l.self.known.setup) L l.now.0 q)) (peers_of l.neighbour-items)

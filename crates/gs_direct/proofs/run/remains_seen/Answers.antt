@@ -1,0 +1,59 @@
+use Rattle.std.proofs.Common.{rules, ◌≡◌, false, [], length, map, sym, ap, subst, ◌∙◌, IfOk, Result, Ok, Err}
+use Rattle.std.specs.List.{AllByRecursion}
+use Rattle.gs_base.specs.declared.names.PeerNo.{PeerNo}
+use Rattle.gs_report.specs.declared.finished.Finished.{Finished}
+use Rattle.gs_rules.specs.Rounds.{Closing, moment_of}
+use Rattle.gs_seats.specs.Rounds.{peer_no, seat_in}
+use Rattle.gs_seats.proofs.ByNumber.{as_many}
+use Rattle.gs_direct.specs.declared.peer.Peer.{Peer}
+use Rattle.gs_direct.specs.Peers.{IsNewPeer, left_of, remains_of}
+use Rattle.gs_direct.specs.Runs.{AreAt, numbered, trace_at}
+use Rattle.gs_direct.proofs.Finishing.{all_closed, lent, numbers_left, still_run}
+use Rattle.gs_direct.proofs.Closing.{ended_run}
+use Rattle.gs_direct.proofs.Loops.{all_begin}
+use Rattle.gs_direct.proofs.Observing.{lives_traces, new_traces, remains_numbers, remains_values}
+use Rattle.gs_direct.proofs.run.remains_seen.Goals as goal
+
+if_ok : {A E : Type 0} (r : Result A E) (P Q : A → Type 0) → ((x : A) → P x → Q x) → IfOk r P → IfOk r Q
+if_ok (Ok x) P Q so h = so x h
+if_ok (Err e) P Q so h = tt
+
+pub run_all-requires-clause-begun : goal.run_all-requires-clause-begun
+run_all-requires-clause-begun g c =
+    subst (λ peers. AreAt c.args.plan.now 0 peers c.in_ok-post.post.mail.items) (sym c.deref_mut.ensures.value)
+    (all_begin c.args.plan.now c.in_ok-peers.peers.items c.in_ok-post.post.mail.items c.in_ok-peers.ensures (search rules))
+
+pub run_all-requires-clause-saw : goal.run_all-requires-clause-saw
+run_all-requires-clause-saw g c = record {
+  seen = λ p. [];
+  told = c.requires.new;
+  same = λ p. sym (ap (λ peers. trace_at peers p) c.deref_mut.ensures.value ∙ new_traces c.args.plan.now c.in_ok-peers.peers.items c.in_ok-peers.ensures p);
+}
+
+pub remains_of_all-requires-clause-running : goal.remains_of_all-requires-clause-running
+remains_of_all-requires-clause-running g c =
+    let plan = c.args.plan.now in
+    let count = c.in_ok-peers.peers.len in
+    let counted : count ≡ length plan.peers = search rules ∙ as_many (IsNewPeer plan) plan c.in_ok-peers.peers.items c.in_ok-peers.ensures in
+    let news = c.run_all.new.peers in
+    let e = c.in_ok-run_all.ensures.ended in
+    subst (AllByRecursion (λ (peer : Peer _). peer.router.is_stopped ≡ false)) (sym (lent count news _ (all_closed plan e.olds news e.mail e.at_end e.closed ∙ sym counted)))
+    (still_run plan e.olds news e.mail e.at_end e.closed)
+
+pub returns : goal.returns
+returns g c =
+    let plan = c.args.plan.now in
+    let count = c.in_ok-peers.peers.len in
+    let counted : count ≡ length plan.peers = search rules ∙ as_many (IsNewPeer plan) plan c.in_ok-peers.peers.items c.in_ok-peers.ensures in
+    let news = c.run_all.new.peers in
+    let e = c.in_ok-run_all.ensures.ended in
+    let saw = c.in_ok-run_all.ensures.saw in
+    let now = moment_of (seat_in plan (peer_no 0)) Closing in
+    let same = lent count news _ (all_closed plan e.olds news e.mail e.at_end e.closed ∙ sym counted) in
+    if_ok c.remains_of_all.result _ _ (λ remains is. (
+      map (left_of now) news,
+      ended_run plan e.olds news e.mail e.at_end e.closed,
+      record { seen = saw.seen; told = saw.told; same = λ p. saw.same p ∙ lives_traces now news p },
+      remains_numbers plan remains.items news (is ∙ ap (λ peers. map (λ (x : PeerNo × Finished). (x.0, remains_of x.1)) (map (numbered plan) peers)) same) ∙ numbers_left plan e.olds news e.mail e.at_end e.closed,
+      remains_values plan remains.items news (is ∙ ap (λ peers. map (λ (x : PeerNo × Finished). (x.0, remains_of x.1)) (map (numbered plan) peers)) same),
+    )) c.remains_of_all.ensures
