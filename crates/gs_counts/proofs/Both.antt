@@ -6,7 +6,7 @@ use Rattle.std.proofs.lemmas.Bool.Decides.{nat_tests}
 use Rattle.std.proofs.lemmas.Option.{slice_get-get_or}
 use Rattle.gs_counts.specs.declared.counts.Counts.{Counts}
 use Rattle.gs_counts.specs.Kinds.{all_kinds}
-use Rattle.gs_counts.specs.Rows.{changed_at, counted_at, number_at, plus, with_counts}
+use Rattle.gs_counts.specs.Rows.{counted_at, number_at, plus, with_counts}
 use Rattle.gs_counts.proofs.Places.{changed}
 
 -- the number at a place, where those of the first places are summed

@@ -1,5 +1,5 @@
 -- The rows of topics make up the whole.
-use Rattle.std.proofs.Common.{◌≡◌, ◌≤◌, ℕ, ◌+◌, not, Bool, true, false, if◌then◌else◌, List, [], ◌∷◌, ◌++◌, filter, Option, Some, None, refl, sym, ap, ap₂, subst, ◌∙◌, arith}
+use Rattle.std.proofs.Common.{◌≡◌, ◌≤◌, ℕ, ◌+◌, not, Bool, true, false, if◌then◌else◌, List, [], ◌∷◌, ◌++◌, filter, Option, Some, None, refl, sym, ap, ap₂, ◌∙◌, arith}
 use Rattle.std.specs.Prelude.{◌||◌, is_none, option_to_list}
 use Rattle.std.specs.List.{AllByRecursion, list_any, sum_by}
 use Rattle.std.specs.List.Sorted.{IsStrictlySortedBy}
@@ -15,7 +15,7 @@ use Rattle.gs_router.proofs.Ascending.{one_topic}
 use Rattle.gs_counts.specs.declared.happening.Happening.{Happening}
 use Rattle.gs_counts.specs.Standing.{is_on, topics_in}
 use Rattle.gs_counts.specs.Sums.{MakeUp, in_none, stands_on}
-use Rattle.gs_counts.proofs.Parts.{make_up, one_if, times}
+use Rattle.gs_counts.proofs.Parts.{make_up, one_if}
 use Rattle.gs_counts.proofs.Sorted.{itself, same_order}
 
 -- ---- each stands in one row at most

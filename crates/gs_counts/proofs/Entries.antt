@@ -1,5 +1,5 @@
 -- What is listed of an entry is what happens at it.
-use Rattle.std.proofs.Common.{◌≡◌, ℕ, ◌+◌, ◌<◌, get_or, length, take, Bool, true, false, not, if◌then◌else◌, List, [], ◌∷◌, ◌++◌, map, refl, sym, ap, ap₂, ◌∙◌, append_assoc}
+use Rattle.std.proofs.Common.{◌≡◌, ℕ, ◌+◌, ◌<◌, get_or, length, take, Bool, not, if◌then◌else◌, List, [], ◌∷◌, ◌++◌, map, refl, sym, ap, ap₂, ◌∙◌, append_assoc}
 use Rattle.std.specs.Prelude.{unwrap_or}
 use Rattle.std.specs.List.{flat_map, list_any}
 use Rattle.std.proofs.lemmas.List.{map-append, take_more}
@@ -11,7 +11,6 @@ use Rattle.gs_base.specs.Names.{is_signed, message_id, payload_of, peers_of, sam
 use Rattle.gs_plan.specs.declared.plan.Plan.{Plan}
 use Rattle.gs_rules.specs.declared.event.Event.{Event}
 use Rattle.gs_rules.specs.declared.event.Event.TheVariants.{Heard, Late, Part, BeatBegin, Step, Own, Lost, Decay, RoundEnd, Shut}
-use Rattle.gs_rules.specs.declared.event.RpcPart.{RpcPart}
 use Rattle.gs_rules.specs.declared.event.RpcPart.TheVariants.{Sub, Msg, Have, Want, GraftIn, PruneIn}
 use Rattle.gs_rules.specs.declared.fallen.Fallen.{Fallen}
 use Rattle.gs_rules.specs.declared.trace.Entry.{Entry}
@@ -27,7 +26,7 @@ use Rattle.gs_counts.specs.declared.lane.Lane.{Lane}
 use Rattle.gs_counts.specs.declared.memory.Memory.{Memory}
 use Rattle.gs_counts.specs.declared.traces.Notes.{Notes}
 use Rattle.gs_counts.specs.Changes.{delivery_happenings, mark_happenings}
-use Rattle.gs_counts.specs.Fates.{again, fate_after, known_fate, last_ignored, shown, was_ignored}
+use Rattle.gs_counts.specs.Fates.{again, fate_after, known_fate, shown}
 use Rattle.gs_counts.specs.Happenings.{heard_of, of_peer}
 use Rattle.gs_counts.specs.Heard.{event_happenings, fallen_happenings, message_happenings}
 use Rattle.gs_counts.specs.Lanes.{lane_after, lane_happenings, lane_of, links_happenings, new_lane}

@@ -1,6 +1,5 @@
 -- What goes out over a lane, entry by entry.
-use Rattle.std.proofs.Common.{◌≡◌, ℕ, ◌+◌, ◌<◌, Bool, true, false, if◌then◌else◌, List, [], ◌∷◌, ◌++◌, filter, get_or, length, map, take, Option, None, refl, sym, ap, ap₂, ◌∙◌, append-nil, append_assoc}
-use Rattle.std.specs.Prelude.{option_to_list}
+use Rattle.std.proofs.Common.{◌≡◌, ℕ, ◌+◌, ◌<◌, Bool, true, false, if◌then◌else◌, List, [], ◌∷◌, ◌++◌, filter, get_or, length, map, take, Option, None, refl, sym, ap, ap₂, ◌∙◌, append_assoc}
 use Rattle.std.specs.List.{flat_map}
 use Rattle.std.proofs.lemmas.Grind.{flat_map-append}
 use Rattle.std.proofs.lemmas.List.{take_more}
@@ -13,7 +12,7 @@ use Rattle.gs_wire.specs.Messages.{frame}
 use Rattle.gs_rules.specs.declared.event.Event.{Event}
 use Rattle.gs_rules.specs.declared.trace.Entry.{Entry}
 use Rattle.gs_rules.specs.Modes.{sent_to}
-use Rattle.gs_rules.specs.Saying.{Outgoing, behind_entry, behind_event, cut_out, gather, gathered, is_cut, outgoing, sending, sending_all}
+use Rattle.gs_rules.specs.Saying.{Outgoing, behind_entry, behind_event, cut_out, gather, is_cut, outgoing, sending, sending_all}
 use Rattle.gs_rules.specs.Tables.{Entries, cuts_off, up, up_after}
 use Rattle.gs_counts.specs.declared.happening.Happening.{Happening}
 use Rattle.gs_counts.specs.declared.happening.Scene.{Scene}

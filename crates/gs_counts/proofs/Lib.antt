@@ -15,6 +15,12 @@ mod Entries
 mod Ruled
 mod Parts
 mod Reading
+mod Moving
+mod Spans
+mod Shown
+mod Seating
+mod GoingOn
+mod Left
 mod Listing
 mod Whole
 mod ByTopic

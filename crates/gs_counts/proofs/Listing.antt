@@ -1,32 +1,24 @@
 -- Rows of tables in their order.
-use Rattle.std.proofs.Common.{◌≡◌, ◌<◌, ℕ, zero, suc, ◌+◌, Bool, true, false, if◌then◌else◌, List, [], ◌∷◌, ◌++◌, filter, get_or, length, map, take, refl, sym, ap, ap₂, subst, ◌∙◌, append-nil, append_assoc, arith, add-one, zero-add}
-use Rattle.std.specs.Prelude.{Option}
+use Rattle.std.proofs.Common.{◌≡◌, ◌<◌, ℕ, zero, suc, ◌+◌, List, [], ◌∷◌, ◌++◌, get_or, length, map, take, refl, sym, ap, ap₂, ◌∙◌, append-nil, append_assoc, arith, add-one, zero-add}
 use Rattle.std.specs.List.{AllByRecursion, flat_map, range_with_len}
-use Rattle.std.specs.declared.vec.Vec.{Vec}
-use Rattle.std.specs.declared.alloc.Global.{Global}
 use Rattle.std.proofs.lemmas.Grind.{flat_map-append}
-use Rattle.std.proofs.lemmas.List.{get_or-map, length-map, take_more}
+use Rattle.std.proofs.lemmas.List.{map-append, take_more}
 use Rattle.std.proofs.lemmas.List.FromFn.{get_or-map-range_with_len, length-map-range_with_len, map-range_with_len_more}
 use Rattle.gs_base.specs.declared.names.PeerNo.{PeerNo}
-use Rattle.gs_plan.specs.declared.plan.Dial.{Dial}
+use Rattle.gs_base.specs.declared.neighbour.Neighbour.{Neighbour}
+use Rattle.gs_base.specs.Names.{peers_of}
 use Rattle.gs_plan.specs.declared.plan.Plan.{Plan}
-use Rattle.gs_plan.specs.Plans.{are_joined}
 use Rattle.gs_rules.specs.Tables.{ascending}
-use Rattle.gs_seats.specs.Own.{is_dial_of}
-use Rattle.gs_seats.specs.Rounds.{neighbours, numbers}
-use Rattle.gs_seats.proofs.OwnParts.{are_joined_by_own}
+use Rattle.gs_seats.specs.Rounds.{neighbour_in}
 use Rattle.gs_counts.specs.declared.counts.Counts.{Counts}
 use Rattle.gs_counts.specs.declared.happening.Happening.{Happening}
 use Rattle.gs_counts.specs.declared.run.LinkCounts.{LinkCounts}
 use Rattle.gs_counts.specs.declared.run.PeerCounts.{PeerCounts}
-use Rattle.gs_counts.specs.declared.run.RoundCounts.{RoundCounts}
 use Rattle.gs_counts.specs.declared.run.RunCounts.{RunCounts}
-use Rattle.gs_counts.specs.declared.run.TopicCounts.{TopicCounts}
-use Rattle.gs_counts.specs.declared.span.Span.{Span}
 use Rattle.gs_counts.specs.declared.tables.Tables.{Tables}
-use Rattle.gs_counts.specs.Listing.{all_links, by_number, link_if, links_by, peer_row, round_row}
-use Rattle.gs_counts.specs.Rows.{row_of, row_where}
-use Rattle.gs_counts.specs.Runs.{counts_of, link_counts, links_of, peer_counts, round_counts, topic_counts}
+use Rattle.gs_counts.specs.Listing.{all_links, by_number, links_by, peer_row, round_row}
+use Rattle.gs_counts.specs.Rows.{row_where}
+use Rattle.gs_counts.specs.Runs.{counts_of, peer_counts, topic_counts}
 use Rattle.gs_counts.specs.Standing.{MeshSize, Shows, is_at, is_in, over, peer_no, span_in, topics_in}
 
 -- ---- each of a list
@@ -64,11 +56,20 @@ flat_numbered f n = ap (λ k. flat_map f (range_with_len 0 k)) (add-one n) ∙ f
 pub as_many : {R : Type 0} (f : ℕ → R) (count : ℕ) (rows : List R) → rows ≡ by_number f count → length rows ≡ count
 as_many f count rows is = ap (λ xs. length xs) is ∙ length-map-range_with_len f 0 count
 
--- ---- links by a peer's own dials
+-- ---- links
 
--- a peer's own dials say which links come from it
-pub by_own : (dials : List Dial) (count : ℕ) (p : PeerNo) (row : PeerNo → Counts) → links_by (filter (is_dial_of p) dials) count p row ≡ links_by dials count p row
-by_own dials count p row = λ i. flat_map (λ m. if are_joined_by_own dials p (peer_no m) i then record { from = p; to = peer_no m; counts = row (peer_no m) } ∷ [] else []) (range_with_len 0 count)
+-- the neighbours of a peer by their numbers
+pub numbers_named : (plan : Plan) (p : PeerNo) (qs : List PeerNo) → peers_of (map (neighbour_in plan p) qs) ≡ qs
+numbers_named plan p [] = refl
+numbers_named plan p (q ∷ qs) = ap (λ (ps : List PeerNo). q ∷ ps) (numbers_named plan p qs)
+
+-- one more link from a peer
+pub one_link : (first : List LinkCounts) (p : PeerNo) (row : PeerNo → Counts) (ns : List Neighbour) (i : ℕ) (n : Neighbour) → i < length ns → n ≡ get_or ns i n → (first ++ links_by p row (peers_of (take i ns))) ++ links_by p row (n.peer ∷ []) ≡ first ++ links_by p row (peers_of (take (i + 1) ns))
+one_link first p row ns i n below is =
+    append_assoc first (links_by p row (peers_of (take i ns))) (links_by p row (n.peer ∷ []))
+    ∙ ap (λ (xs : List LinkCounts). first ++ xs)
+    (sym (map-append (λ (q : PeerNo). record { from = p; to = q; counts = row q }) (peers_of (take i ns)) (n.peer ∷ []))
+    ∙ ap (links_by p row) (sym (map-append (λ (m : Neighbour). m.peer) (take i ns) (n ∷ [])) ∙ ap peers_of (ap (λ (m : Neighbour). take i ns ++ m ∷ []) is ∙ sym (take_more ns i n below))))
 
 -- ---- tables
 
@@ -76,32 +77,17 @@ peers_listed : (hs : List Happening) (ns : List ℕ) → map (peer_row (λ n. ro
 peers_listed hs [] = refl
 peers_listed hs (n ∷ ns) = ap (λ (rows : List PeerCounts). peer_counts hs (peer_no n) ∷ rows) (peers_listed hs ns)
 
-links_from_one : (dials : List Dial) (hs : List Happening) (n : ℕ) (ms : List ℕ) → flat_map (λ m. link_if dials (peer_no n) (peer_no m) (over hs (peer_no n) (peer_no m))) ms ≡ map (link_counts hs (peer_no n)) (filter (are_joined dials (peer_no n)) (map peer_no ms))
-links_from_one dials hs n [] = refl
-links_from_one dials hs n (m ∷ ms) = by (are_joined dials (peer_no n) (peer_no m)) (links_from_one dials hs n ms)
-  where
-    by : (b : Bool) → flat_map (λ k. link_if dials (peer_no n) (peer_no k) (over hs (peer_no n) (peer_no k))) ms ≡ map (link_counts hs (peer_no n)) (filter (are_joined dials (peer_no n)) (map peer_no ms))
-        → (if b then link_counts hs (peer_no n) (peer_no m) ∷ [] else []) ++ flat_map (λ k. link_if dials (peer_no n) (peer_no k) (over hs (peer_no n) (peer_no k))) ms
-        ≡ map (link_counts hs (peer_no n)) (if b then peer_no m ∷ filter (are_joined dials (peer_no n)) (map peer_no ms) else filter (are_joined dials (peer_no n)) (map peer_no ms))
-    by true is = ap (λ (rows : List LinkCounts). link_counts hs (peer_no n) (peer_no m) ∷ rows) is
-    by false is = is
-
-links_listed : (plan : Plan) (hs : List Happening) (ns : List ℕ) → flat_map (λ n. links_by plan.dials (length plan.peers) (peer_no n) (over hs (peer_no n))) ns ≡ flat_map (links_of plan hs) (map peer_no ns)
-links_listed plan hs [] = refl
-links_listed plan hs (n ∷ ns) =
-    ap₂ (λ (xs ys : List LinkCounts). xs ++ ys) (links_from_one plan.dials hs n (range_with_len 0 (length plan.peers))) (links_listed plan hs ns)
-
 pub listed : (plan : Plan) (tables : Tables) (hs : List Happening) (sizes : List MeshSize) (out : RunCounts)
     → Shows plan tables hs sizes
     → out.peers ≡ by_number (peer_row (λ n. row_where (is_at (peer_no n)) hs)) (length plan.peers)
-    → out.links ≡ all_links plan.dials (length plan.peers) (over hs)
+    → out.links ≡ all_links plan (over hs)
     → out.topics ≡ map (topic_counts hs) (ascending (topics_in hs))
     → out.rounds ≡ by_number (round_row (λ r. row_where (is_in plan.round_ms r) hs) (λ r. span_in plan.round_ms r sizes)) (plan.rounds + 1)
     → out.all ≡ tables.all
     → out ≡ counts_of plan hs sizes
 listed plan tables hs sizes out shows peers links topics rounds all = λ i. record {
   peers = (peers ∙ peers_listed hs (range_with_len 0 (length plan.peers))) i;
-  links = (links ∙ links_listed plan hs (range_with_len 0 (length plan.peers))) i;
+  links = links i;
   topics = topics i;
   rounds = rounds i;
   all = (all ∙ shows.all) i;

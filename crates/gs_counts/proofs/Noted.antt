@@ -1,29 +1,24 @@
 -- Tables after one happening more.
-use Rattle.std.proofs.Common.{◌≡◌, ℕ, ◌+◌, ◌<◌, Bool, true, false, nat_eq, if◌then◌else◌, List, [], ◌∷◌, ◌++◌, filter, fold, get_or, length, map, pos, take, refl, sym, ap, ap₂, subst, ◌∙◌, append-nil, append_assoc, zero-add}
-use Rattle.std.specs.Prelude.{◌&&◌, ◌||◌, Option, None, Some, option_map, option_to_list, slice_get, slice_set, unwrap_or}
-use Rattle.std.specs.Vec.{with_item}
-use Rattle.std.specs.declared.vec.Vec.{Vec}
-use Rattle.std.specs.declared.alloc.Global.{Global}
-use Rattle.std.specs.List.{flat_map, list_any, range_with_len}
+use Rattle.std.proofs.Common.{◌≡◌, ℕ, ◌+◌, ◌<◌, Bool, true, false, nat_eq, if◌then◌else◌, List, [], ◌∷◌, ◌++◌, filter, get_or, length, map, pos, take, refl, sym, ap, ap₂, ◌∙◌, append-nil, append_assoc}
+use Rattle.std.specs.Prelude.{◌||◌, Option, None, Some, option_to_list, unwrap_or}
+use Rattle.std.specs.List.{list_any}
 use Rattle.std.proofs.lemmas.Cmp.{nat_list_eq_equiv}
 use Rattle.std.proofs.lemmas.Grind.{flat_map-append}
-use Rattle.std.proofs.lemmas.List.{map-append, map-set, take_more}
-use Rattle.std.proofs.lemmas.List.FromFn.{map-range_with_len_more}
-use Rattle.std.proofs.lemmas.Option.{slice_get-get_or, slice_get-map}
+use Rattle.std.proofs.lemmas.List.{map-append, take_more}
 use Rattle.std.proofs.lemmas.List.Elements.{filter-append}
 use Rattle.std.proofs.lemmas.List.Folds.{list_any-append}
 use Rattle.std.proofs.lemmas.List.Sums.{fold-append}
 use Rattle.gs_base.specs.declared.names.PeerNo.{PeerNo}
 use Rattle.gs_base.specs.declared.names.Topic.{Topic}
-use Rattle.gs_base.specs.Names.{same_peer, same_topic}
+use Rattle.gs_base.specs.Names.{same_topic}
 use Rattle.gs_plan.specs.declared.plan.Plan.{Plan}
 use Rattle.gs_counts.specs.declared.counts.Counts.{Counts}
 use Rattle.gs_counts.specs.declared.happening.Happening.{Happening}
 use Rattle.gs_counts.specs.declared.span.Span.{Span}
 use Rattle.gs_counts.specs.declared.tables.Tables.{Tables}
 use Rattle.gs_counts.specs.Meshes.{span_of, widened}
-use Rattle.gs_counts.specs.Rows.{changed_at, counted, no_counts, row_of, row_where}
-use Rattle.gs_counts.specs.Standing.{MeshSize, Shows, added_at, empty_rows, goes_over, is_at, is_in, is_on, link_of, link_row, no_spans, over, peer_no, peer_rows, round_at, round_rows, row_on, span_in, span_rows, topic_row, topics_in, widened_at, with_more}
+use Rattle.gs_counts.specs.Rows.{counted, no_counts, row_of, row_where}
+use Rattle.gs_counts.specs.Standing.{MeshSize, Shows, added_at, empty_rows, goes_over, is_at, is_in, is_on, link_of, link_row, no_spans, over, peer_no, peer_rows, round_at, round_rows, row_on, span_in, topic_row, topics_in, widened_at, with_more}
 use Rattle.gs_counts.proofs.OneMore.{row_if, row_more}
 use Rattle.gs_counts.proofs.Places.{changed}
 

@@ -1,6 +1,6 @@
 -- The bytes that are counted of a link are those that a trace says to the neighbour. A legal trace sends nothing that fits
 -- no frame.
-use Rattle.std.proofs.Common.{◌≡◌, ℕ, ◌+◌, Bool, true, false, if◌then◌else◌, List, [], ◌∷◌, ◌++◌, filter, length, map, Option, None, refl, sym, ap, ap₂, ◌∙◌, length-append, arith}
+use Rattle.std.proofs.Common.{◌≡◌, ℕ, ◌+◌, Bool, true, false, if◌then◌else◌, List, [], ◌∷◌, ◌++◌, filter, length, map, Option, refl, sym, ap, ap₂, ◌∙◌, length-append, arith}
 use Rattle.std.specs.Prelude.{option_to_list}
 use Rattle.std.specs.List.{flat_map}
 use Rattle.std.proofs.lemmas.Grind.{flat_map-append}
@@ -19,7 +19,6 @@ use Rattle.gs_rules.specs.declared.trace.Entry.{Entry}
 use Rattle.gs_rules.specs.Legal.{Legal}
 use Rattle.gs_rules.specs.Peers.{Peer}
 use Rattle.gs_rules.specs.Tables.{Entries, is_lost, lost, up}
-use Rattle.gs_rules.specs.Modes.{sent_to}
 use Rattle.gs_rules.specs.Saying.{Byte, Close, Said, Outgoing, behind_entry, behind_event, bytes_of, cut_out, frames_of, gather, is_cut, out, outgoing, raw_to, sending, sending_all, sign}
 use Rattle.gs_rules.proofs.Fitting.{AllWritten, SendsWritten, legal_written}
 use Rattle.gs_rules.proofs.Spelled.{bytes_of_append, bytes_of_bytes}

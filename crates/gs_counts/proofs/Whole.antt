@@ -1,5 +1,5 @@
 -- Each happening stands at one peer at most, in one round and over one link: so the rows make up the whole.
-use Rattle.std.proofs.Common.{◌≡◌, ◌≤◌, ◌<◌, ℕ, zero, suc, ◌+◌, Bool, true, false, nat_eq, if◌then◌else◌, length, List, [], ◌∷◌, ◌++◌, filter, map, refl, sym, ap, ap₂, subst, ◌∙◌, arith}
+use Rattle.std.proofs.Common.{◌≡◌, ◌≤◌, ◌<◌, ℕ, zero, suc, ◌+◌, Bool, true, false, nat_eq, if◌then◌else◌, length, List, [], ◌∷◌, filter, map, refl, sym, ap, ap₂, subst, ◌∙◌, arith}
 use Rattle.std.specs.Prelude.{◌&&◌, Option, None, Some}
 use Rattle.std.specs.List.{flat_map, range_with_len, sum_by}
 use Rattle.std.proofs.lemmas.Bool.Decides.{nat_tests}
@@ -12,7 +12,7 @@ use Rattle.gs_seats.specs.Rounds.{neighbours, numbers, peer_no}
 use Rattle.gs_counts.specs.declared.happening.Happening.{Happening}
 use Rattle.gs_counts.specs.Standing.{goes_over, is_at, is_in, link_of, round_at}
 use Rattle.gs_counts.specs.Sums.{MakeUp, linked}
-use Rattle.gs_counts.proofs.Parts.{make_up, one_if, times}
+use Rattle.gs_counts.proofs.Parts.{make_up, one_if}
 
 -- ---- one number of several
 

@@ -1,6 +1,5 @@
 -- What happens at an event: an RPC or a part of one is heard, a link is cut, or something comes to nothing.
-use Rattle.std.specs.Prelude.{ℕ, List, [], ◌∷◌, length}
-use Rattle.gs_base.specs.declared.names.PeerNo.{PeerNo}
+use Rattle.std.specs.Prelude.{List, [], ◌∷◌, length}
 use Rattle.gs_base.specs.declared.mark.Mark.{Mark}
 use Rattle.gs_base.specs.declared.rpc.Message.{Message}
 use Rattle.gs_base.specs.declared.control.IHave.{IHave}

@@ -9,7 +9,6 @@ use Rattle.gs_wire.specs.Messages.{frame}
 use Rattle.gs_plan.specs.declared.plan.Act.{Act}
 use Rattle.gs_plan.specs.declared.plan.Act.TheVariants.{Subscribe, Unsubscribe, Publish, Raw, HangUp}
 use Rattle.gs_rules.specs.declared.event.Event.{Event}
-use Rattle.gs_rules.specs.declared.event.Event.TheVariants.{Heard, Late, Part, BeatBegin, Step, Own, Lost, Decay, RoundEnd, Shut}
 use Rattle.gs_rules.specs.declared.trace.Entry.{Entry}
 use Rattle.gs_rules.specs.Events.{of_act}
 use Rattle.gs_rules.specs.Modes.{sent_to}

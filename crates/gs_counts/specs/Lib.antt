@@ -18,3 +18,4 @@ pub mod Reading
 pub mod Listing
 pub mod Runs
 pub mod Exchanges
+pub mod Counting

@@ -1,10 +1,10 @@
 -- Rows of tables in their order, and what goes over links to a peer.
-use Rattle.std.specs.Prelude.{ℕ, if◌then◌else◌, List, [], ◌∷◌, filter, fold, map, Option}
+use Rattle.std.specs.Prelude.{ℕ, List, filter, fold, map, Option}
 use Rattle.std.specs.List.{flat_map, range_with_len}
 use Rattle.gs_base.specs.declared.names.PeerNo.{PeerNo}
 use Rattle.gs_base.specs.Names.{same_peer}
-use Rattle.gs_plan.specs.declared.plan.Dial.{Dial}
-use Rattle.gs_plan.specs.Plans.{are_joined}
+use Rattle.gs_plan.specs.declared.plan.Plan.{Plan}
+use Rattle.gs_seats.specs.Rounds.{neighbours, numbers}
 use Rattle.gs_counts.specs.declared.counts.Counts.{Counts}
 use Rattle.gs_counts.specs.declared.kind.Kind.{Kind}
 use Rattle.gs_counts.specs.declared.run.LinkCounts.{LinkCounts}
@@ -28,17 +28,13 @@ round_row row span r = record { round = r; counts = row r; members = span r }
 
 -- ---- links
 
--- the link from one peer to another, if a dial joins them
-abbrev pub link_if : List Dial → PeerNo → PeerNo → Counts → List LinkCounts
-link_if dials p q counts = if are_joined dials p q then record { from = p; to = q; counts = counts } ∷ [] else []
+-- the links from a peer to others
+abbrev pub links_by : PeerNo → (PeerNo → Counts) → List PeerNo → List LinkCounts
+links_by p row qs = map (λ q. record { from = p; to = q; counts = row q }) qs
 
--- the links from a peer
-abbrev pub links_by : List Dial → ℕ → PeerNo → (PeerNo → Counts) → List LinkCounts
-links_by dials count p row = flat_map (λ m. link_if dials p (peer_no m) (row (peer_no m))) (range_with_len 0 count)
-
--- the links of all peers
-abbrev pub all_links : List Dial → ℕ → (PeerNo → PeerNo → Counts) → List LinkCounts
-all_links dials count row = flat_map (λ n. links_by dials count (peer_no n) (row (peer_no n))) (range_with_len 0 count)
+-- the links from each peer to its neighbours
+abbrev pub all_links : Plan → (PeerNo → PeerNo → Counts) → List LinkCounts
+all_links plan row = flat_map (λ p. links_by p (row p) (neighbours plan p)) (numbers plan)
 
 -- ---- what goes over links to a peer
 

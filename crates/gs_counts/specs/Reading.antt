@@ -1,17 +1,18 @@
--- What is known about a peer whose trace is read.
-use Rattle.std.specs.Prelude.{◌≡◌, List, ◌++◌, map, reverse}
+-- What is known about a peer whose entries are seen.
+use Rattle.std.specs.Prelude.{◌≡◌, ◌≤◌, ℕ, List, [], ◌∷◌, ◌++◌, map}
 use Rattle.gs_base.specs.declared.names.PeerNo.{PeerNo}
 use Rattle.gs_plan.specs.declared.plan.Plan.{Plan}
-use Rattle.gs_rules.specs.Tables.{Entries}
-use Rattle.gs_router.specs.declared.follower.Follower.{Follower}
-use Rattle.gs_router.specs.Following.{Follows, Reading}
+use Rattle.gs_rules.specs.declared.trace.Entry.{Entry}
+use Rattle.gs_rules.specs.Tables.{Entries, last_moment}
+use Rattle.gs_router.specs.Watching.{Watches}
 use Rattle.gs_seats.specs.Rounds.{neighbours, peer_in}
 use Rattle.gs_counts.specs.declared.happening.Happening.{Happening}
 use Rattle.gs_counts.specs.declared.tables.Tables.{Tables}
 use Rattle.gs_counts.specs.declared.traces.Notes.{Notes}
+use Rattle.gs_counts.specs.declared.traces.Seat.{Seat}
 use Rattle.gs_counts.specs.Lanes.{lane_of}
 use Rattle.gs_counts.specs.Memories.{Remembers}
-use Rattle.gs_counts.specs.Runs.{trace_happenings, trace_sizes}
+use Rattle.gs_counts.specs.Runs.{entry_happenings, entry_sizes}
 use Rattle.gs_counts.specs.Standing.{MeshSize, Shows}
 
 -- The notes have what a trace of a peer of the plan says, and what goes out to its neighbours after the trace.
@@ -20,17 +21,34 @@ pub record IsNoted (plan : Plan) (p : PeerNo) (notes : Notes) (L : Entries) : Ty
   pub memory : Remembers notes.memory L
   pub lanes : notes.lanes.items ≡ map (lane_of L) (neighbours plan p)
 
--- the later tables show a trace in addition to what the earlier ones show
-abbrev pub ShowsMore : Plan → PeerNo → Tables → Tables → Entries → Type 0
-ShowsMore plan p old new L =
-    (hs : List Happening) (sizes : List MeshSize) → Shows plan old hs sizes
-    → Shows plan new (hs ++ trace_happenings plan p L) (sizes ++ trace_sizes L)
+-- The state of a peer of the plan has seen a trace.
+pub record HasSeen (plan : Plan) (p : PeerNo) (seat : Seat) (L : Entries) : Type 0 where
+  pub known : IsNoted plan p seat.notes L
+  pub watches : Watches seat.watcher (peer_in plan p) L
+  pub last : seat.last.0 ≡ last_moment L
 
--- A part of a trace was read, and noted.
-pub record IsRead (plan : Plan) (p : PeerNo) (trace : Entries) (f : Follower) (notes : Notes) (old new : Tables) : Type 0 where
-  pub view : Reading
-  pub follows : Follows f view
-  pub peer : view.peer ≡ peer_in plan p
-  pub whole : reverse view.left ++ view.before ≡ trace
-  pub known : IsNoted plan p notes view.before
-  pub shows : ShowsMore plan p old new view.before
+-- ---- further entries, the oldest first
+
+-- none is earlier than the one before it, and the first is no earlier than a moment
+abbrev pub AreLater : ℕ → List Entry → Type 0
+AreLater at [] = Unit {0}
+AreLater at (e ∷ es) = (at ≤ e.at.0) × AreLater e.at.0 es
+
+-- what each of them adds to a trace that grows by it
+abbrev pub later : {A : Type 0} → (Entries → Entry → List A) → Entries → List Entry → List A
+later each L [] = []
+later each L (e ∷ es) = each L e ++ later each (e ∷ L) es
+
+-- what happens at them
+abbrev pub later_happenings : Plan → PeerNo → Entries → List Entry → List Happening
+later_happenings plan p L es = later (entry_happenings plan p) L es
+
+-- the sizes of meshes at those that end rounds
+abbrev pub later_sizes : Entries → List Entry → List MeshSize
+later_sizes L es = later entry_sizes L es
+
+-- the later tables show further entries in addition to what the earlier ones show
+abbrev pub ShowsLater : Plan → PeerNo → Tables → Tables → Entries → List Entry → Type 0
+ShowsLater plan p old new L es =
+    (hs : List Happening) (sizes : List MeshSize) → Shows plan old hs sizes
+    → Shows plan new (hs ++ later_happenings plan p L es) (sizes ++ later_sizes L es)

@@ -1,5 +1,5 @@
 -- In which row of each table a happening stands, and the tables of happenings.
-use Rattle.std.specs.Prelude.{◌≡◌, ℕ, ◌+◌, ◌/◌, max, pos, Bool, false, nat_eq, ◌&&◌, if◌then◌else◌, List, [], ◌∷◌, filter, length, map, Option, None, Some, option_to_list, unwrap_or}
+use Rattle.std.specs.Prelude.{◌≡◌, ℕ, ◌+◌, ◌/◌, max, pos, Bool, false, nat_eq, ◌&&◌, if◌then◌else◌, List, filter, length, map, Option, None, Some, option_to_list, unwrap_or}
 use Rattle.std.specs.List.{flat_map, list_any, range_with_len}
 use Rattle.std.specs.Map.{lookup}
 use Rattle.std.specs.Ordering.{is_eq}

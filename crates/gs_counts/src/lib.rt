@@ -3,6 +3,7 @@
 #![tactic(auto)]
 
 mod changes;
+mod counting;
 mod counts;
 mod exchange;
 mod fate;
@@ -23,6 +24,7 @@ mod topics;
 mod traces;
 mod verdicts;
 
+pub use counting::Counting;
 pub use counts::{Counts, no_counts};
 pub use exchange::{
     rpcs_that_are_counted_are_said, rpcs_that_are_handled_came, rpcs_that_were_sent_came,

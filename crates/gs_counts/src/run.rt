@@ -1,6 +1,7 @@
 //! What happened in a run, by peer, by link, by topic, by round and in all.
 ghost use Rattle.std.specs.Prelude.{◌≡◌, ◌++◌, ◌∷◌, [], ℕ, IfOk, length, List, map, OnOk, Option};
 ghost use Rattle.std.specs.List.{AllByRecursion};
+ghost use Rattle.gs_base.specs.Names.{peers_of};
 ghost use Rattle.gs_base.specs.declared.names.PeerNo.{PeerNo as PeerNoValue};
 ghost use Rattle.gs_base.specs.declared.names.Topic.{Topic as TopicValue};
 ghost use Rattle.gs_plan.specs.Plans.{IsInRange};
@@ -10,7 +11,7 @@ ghost use Rattle.gs_rules.specs.Tables.{ascending};
 ghost use Rattle.gs_counts.specs.declared.counts.Counts.{Counts as CountsValue};
 ghost use Rattle.gs_counts.specs.declared.happening.Happening.{Happening as HappeningValue};
 ghost use Rattle.gs_counts.specs.declared.span.Span.{Span as SpanValue};
-ghost use Rattle.gs_counts.specs.Listing.{all_links, by_number, link_if, links_by, links_to, over_links, peer_row, round_row, with_links};
+ghost use Rattle.gs_counts.specs.Listing.{all_links, by_number, links_by, links_to, over_links, peer_row, round_row, with_links};
 ghost use Rattle.gs_counts.specs.Runs.{chosen_peers, counts_of, happenings, mesh_sizes, run_counts, topic_counts};
 ghost use Rattle.gs_counts.specs.Standing.{MeshSize, Shows, link_row, row_on, topic_row, topics_in};
 
@@ -19,11 +20,11 @@ use crate::kind::Kind;
 use crate::span::Span;
 use crate::tables::{LinkRows, Tables, row_over};
 use crate::traces::note_peer;
-use gs_base::{PeerNo, Seq, Topic, clone_of};
-use gs_plan::{Dial, Plan, are_joined};
+use gs_base::{Neighbour, PeerNo, Seq, Topic, clone_of};
+use gs_plan::Plan;
 use gs_reach::Chosen;
 use gs_report::{Finished, Report};
-use gs_seats::own_of;
+use gs_seats::neighbours_of;
 use std::alloc::{AllocError, Global};
 use std::collections::BTreeMap;
 
@@ -135,7 +136,7 @@ fn note_chosen(
 }
 
 /// The rows of these tables.
-fn rows_of(alloc: Global, plan: &Plan, tables: &Tables) -> Result<RunCounts, AllocError>
+pub(crate) fn rows_of(alloc: Global, plan: &Plan, tables: &Tables) -> Result<RunCounts, AllocError>
     requires range { IsInRange plan.now }
     requires shown { (hs : List HappeningValue) × (sizes : List MeshSize) × Shows plan.now tables.now hs sizes }
     ensures { IfOk result (λ counts. (hs : List HappeningValue) (sizes : List MeshSize)
@@ -144,7 +145,7 @@ fn rows_of(alloc: Global, plan: &Plan, tables: &Tables) -> Result<RunCounts, All
 {
     let count = plan.peers.len() as u16;
     let peers = peer_rows(alloc, count, &tables.peers)?;
-    let links = link_rows(alloc, plan.dials.as_slice(), count, &tables.links)?;
+    let links = link_rows(alloc, plan, &tables.links)?;
     let topics = topic_rows(alloc, &tables.topics)?;
     let rounds = round_rows(alloc, &tables.rounds, &tables.spans)?;
     Ok(RunCounts {
@@ -172,57 +173,50 @@ fn peer_rows(alloc: Global, count: u16, rows: &[Counts]) -> Result<Seq<PeerCount
     Ok(peers)
 }
 
-fn link_rows(
-    alloc: Global,
-    dials: &[Dial],
-    count: u16,
-    rows: &LinkRows,
-) -> Result<Seq<LinkCounts>, AllocError>
-    ensures { IfOk result (λ links. links ≡ all_links dials.now count (link_row rows.now)) }
+fn link_rows(alloc: Global, plan: &Plan, rows: &LinkRows) -> Result<Seq<LinkCounts>, AllocError>
+    requires { IsInRange plan.now }
+    ensures { IfOk result (λ links. links ≡ all_links plan.now (link_row rows.now)) }
 {
+    let count = plan.peers.len() as u16;
     let mut links = Seq::new(alloc);
     for number in 0..count {
         let from = PeerNo(number);
-        let own = own_of(alloc, dials, from)?;
-        list_links(&mut links, &own, count, from, rows)?;
+        let neighbours = neighbours_of(alloc, plan, from)?;
+        list_links(&mut links, &neighbours, from, rows)?;
     }
     Ok(links)
 }
 
-/// Lists the links from a peer to others. These dials are enough to say who they are.
+/// Lists the links from a peer to these neighbours.
 fn list_links(
     links: &mut Seq<LinkCounts>,
-    dials: &[Dial],
-    count: u16,
+    neighbours: &[Neighbour],
     from: PeerNo,
     rows: &LinkRows,
 ) -> Result<(), AllocError>
-    ensures { OnOk result (links.new ≡ links.old ++ links_by dials.now count from (link_row rows.now from)) }
+    ensures { OnOk result (links.new
+        ≡ links.old ++ links_by from (link_row rows.now from) (peers_of neighbours.now)) }
 {
-    for number in 0..count {
-        list_link(links, dials, from, PeerNo(number), rows)?;
+    for neighbour in neighbours {
+        list_link(links, from, neighbour.peer, rows)?;
     }
     Ok(())
 }
 
-/// Lists a link, if a dial joins its ends.
 fn list_link(
     links: &mut Seq<LinkCounts>,
-    dials: &[Dial],
     from: PeerNo,
     to: PeerNo,
     rows: &LinkRows,
 ) -> Result<(), AllocError>
-    ensures { OnOk result (links.new ≡ links.old ++ link_if dials.now from to (link_row rows.now from to)) }
+    ensures { OnOk result (links.new ≡ links.old ++ links_by from (link_row rows.now from) (to ∷ [])) }
 {
-    if !are_joined(dials, from, to) {
-        return Ok(());
-    }
     links.push(LinkCounts {
         from,
         to,
         counts: row_over(rows, from, to),
-    })
+    })?;
+    Ok(())
 }
 
 fn topic_rows(alloc: Global, rows: &BTreeMap<Topic, Counts>) -> Result<Seq<TopicCounts>, AllocError>

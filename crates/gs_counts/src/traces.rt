@@ -1,23 +1,23 @@
 //! The happenings of a peer's trace, entry by entry.
-ghost use Rattle.std.specs.Prelude.{◌≡◌, ◌++◌, ◌∷◌, [], IfOk, List, OnOk, false, map, true};
+ghost use Rattle.std.specs.Prelude.{◌≡◌, ◌≤◌, ◌++◌, ◌∷◌, [], IfOk, List, OnOk, false, map, reverse, true};
 ghost use Rattle.std.specs.List.{flat_map};
 ghost use Rattle.gs_base.specs.Names.{peers_of};
 ghost use Rattle.gs_base.specs.declared.names.PeerNo.{PeerNo as PeerNoValue};
 ghost use Rattle.gs_plan.specs.Plans.{IsInRange};
 ghost use Rattle.gs_plan.specs.declared.plan.Plan.{Plan as PlanValue};
-ghost use Rattle.gs_router.specs.Following.{AreInOrder, Follows, Reading};
+ghost use Rattle.gs_router.specs.Following.{AreInOrder};
 ghost use Rattle.gs_rules.specs.Events.{of_round_end};
 ghost use Rattle.gs_rules.specs.FellAway.{fell_away};
-ghost use Rattle.gs_rules.specs.Tables.{Entries};
+ghost use Rattle.gs_rules.specs.Tables.{Entries, last_moment};
 ghost use Rattle.gs_seats.specs.Rounds.{neighbours, peer_in};
 ghost use Rattle.gs_counts.specs.declared.happening.Happening.{Happening as HappeningValue};
-ghost use Rattle.gs_counts.specs.declared.tables.Tables.{Tables as TablesValue};
 ghost use Rattle.gs_counts.specs.Changes.{refusal_happenings};
 ghost use Rattle.gs_counts.specs.Fates.{known_fate};
 ghost use Rattle.gs_counts.specs.Lanes.{new_lane};
-ghost use Rattle.gs_counts.specs.Reading.{IsNoted, IsRead, ShowsMore};
-ghost use Rattle.gs_counts.specs.Runs.{done_happenings, entry_happenings, entry_sizes, known_sizes, peer_happenings, sizes_of, trace_sizes};
+ghost use Rattle.gs_counts.specs.Reading.{AreLater, HasSeen, IsNoted, ShowsLater};
+ghost use Rattle.gs_counts.specs.Runs.{done_happenings, entry_happenings, entry_sizes, known_sizes, peer_happenings, sizes_of, trace_happenings, trace_sizes};
 ghost use Rattle.gs_counts.specs.Standing.{MeshSize, Shows};
+ghost use Rattle.gs_counts.specs.Topics.{subscribed};
 
 use crate::changes::{note_deliveries, note_marks, note_refusals};
 use crate::happening::{Happening, Scene};
@@ -30,12 +30,22 @@ use crate::tables::Tables;
 use gs_base::{Millis, Neighbour, PeerNo, Topic};
 use gs_plan::Plan;
 use gs_report::Finished;
-use gs_router::{Followed, Follower};
-use gs_rules::{Event, Fallen, StoredEntry};
-use gs_seats::{follower_of, neighbours_of};
+use gs_router::Watcher;
+use gs_rules::{Event, Fallen, RefusedLine, StoredEntry};
+use gs_seats::{neighbours_of, watcher_of};
 use std::alloc::{AllocError, Global};
 
-/// A peer whose trace is read: what is known about it, and what goes out to its neighbours.
+/// A peer whose entries are seen.
+#[derive(Drop)]
+pub(crate) struct Seat {
+    notes: Notes,
+    /// It says what came to nothing at each entry.
+    watcher: Watcher,
+    /// The moment of the entry that was seen last, or 0 if there is none.
+    last: Millis,
+}
+
+/// What is known about a peer whose entries are seen, and what goes out to its neighbours.
 #[derive(Drop)]
 struct Notes {
     peer: PeerNo,
@@ -59,9 +69,7 @@ pub(crate) fn note_peer(
     let (number, life) = peer;
     let mut list = Vec::new(alloc);
     note_trace(alloc, plan, tables, &mut list, peer)?;
-    list.clear();
-    note_refusals(&mut list, *number, life.refused.as_slice())?;
-    tables.note_all(&list)
+    note_refused(tables, &mut list, *number, life.refused.as_slice())
 }
 
 /// Notes what the entries of its trace say.
@@ -74,53 +82,122 @@ fn note_trace(
 ) -> Result<(), AllocError>
     requires range { IsInRange plan.now }
     requires order { AreInOrder peer.now.1.trace }
-    ensures { OnOk result (ShowsMore plan.now peer.now.0 tables.old tables.new peer.now.1.trace) }
+    ensures { OnOk result ((hs : List HappeningValue) (sizes : List MeshSize)
+        → Shows plan.now tables.old hs sizes
+        → Shows plan.now tables.new (hs ++ trace_happenings plan.now peer.now.0 peer.now.1.trace)
+        (sizes ++ trace_sizes peer.now.1.trace)) }
 {
-    let mut follower = follower_of(alloc, plan, peer.0, &peer.1.trace)?;
-    let mut notes = Notes::new(alloc, plan, peer.0)?;
-    note_rest(tables, list, &mut notes, &mut follower)
+    let mut seat = Seat::new(alloc, plan, peer.0)?;
+    seat.see(tables, list, peer.1.trace.entries())
 }
 
-/// Notes what the remaining entries of a trace say.
-fn note_rest(
+/// Notes the lines of the script that a peer refused.
+pub(crate) fn note_refused(
     tables: &mut Tables,
     list: &mut Vec<Happening>,
-    notes: &mut Notes,
-    follower: &mut Follower<'_>,
+    peer: PeerNo,
+    refused: &[RefusedLine],
 ) -> Result<(), AllocError>
-    requires { (v : Reading) × Follows follower.old v }
-    ensures { OnOk result ((plan : PlanValue) (p : PeerNoValue) (trace : Entries) (first : TablesValue)
-        → IsRead plan p trace follower.old notes.old first tables.old
-        → ShowsMore plan p first tables.new trace) }
+    ensures { OnOk result ((plan : PlanValue) (hs : List HappeningValue) (sizes : List MeshSize)
+        → Shows plan tables.old hs sizes
+        → Shows plan tables.new (hs ++ flat_map (refusal_happenings peer) refused.now) sizes) }
 {
-    while let Some(seen) = follower.advance()? {
-        note_seen(tables, notes, list, &seen)?;
-    }
-    Ok(())
+    list.clear();
+    note_refusals(list, peer, refused)?;
+    tables.note_all(list)
 }
 
-/// Notes what an entry says.
-fn note_seen(
+impl Seat {
+    /// The state of a peer that has done nothing.
+    pub(crate) fn new(alloc: Global, plan: &Plan, peer: PeerNo) -> Result<Seat, AllocError>
+        requires { IsInRange plan.now }
+        ensures { IfOk result (λ seat. HasSeen plan.now peer seat []) }
+    {
+        let watcher = watcher_of(alloc, plan, peer)?;
+        let notes = Notes::new(alloc, plan, peer)?;
+        Ok(Seat {
+            notes,
+            watcher,
+            last: Millis(0),
+        })
+    }
+
+    /// The topics that the peer is subscribed to.
+    pub(crate) fn topics(&self) -> &[Topic]
+        ensures { (plan : PlanValue) (p : PeerNoValue) (L : Entries)
+            → HasSeen plan p self.now L → result.now ≡ subscribed L }
+    {
+        &self.notes.memory.meshes.topics
+    }
+
+    /// Notes what the next entries say, the oldest first.
+    pub(crate) fn see(
+        &mut self,
+        tables: &mut Tables,
+        list: &mut Vec<Happening>,
+        entries: &[StoredEntry],
+    ) -> Result<(), AllocError>
+        requires { (plan : PlanValue) × (p : PeerNoValue) × (L : Entries)
+            × HasSeen plan p self.old L × AreLater (last_moment L) entries.now }
+        ensures seat { OnOk result ((plan : PlanValue) (p : PeerNoValue) (L : Entries)
+            → HasSeen plan p self.old L
+            → HasSeen plan p self.new (reverse entries.now ++ L)) }
+        ensures tables { OnOk result ((plan : PlanValue) (p : PeerNoValue) (L : Entries)
+            → HasSeen plan p self.old L
+            → ShowsLater plan p tables.old tables.new L entries.now) }
+    {
+        for entry in entries {
+            self.see_one(tables, list, entry)?;
+        }
+        Ok(())
+    }
+
+    /// Notes what the next entry says.
+    fn see_one(
+        &mut self,
+        tables: &mut Tables,
+        list: &mut Vec<Happening>,
+        entry: &StoredEntry,
+    ) -> Result<(), AllocError>
+        requires { (plan : PlanValue) × (p : PeerNoValue) × (L : Entries)
+            × HasSeen plan p self.old L × (last_moment L ≤ entry.now.at.0) }
+        ensures seat { OnOk result ((plan : PlanValue) (p : PeerNoValue) (L : Entries)
+            → HasSeen plan p self.old L
+            → HasSeen plan p self.new (entry.now ∷ L)) }
+        ensures tables { OnOk result ((plan : PlanValue) (p : PeerNoValue) (L : Entries)
+            → HasSeen plan p self.old L
+            → ShowsLater plan p tables.old tables.new L (entry.now ∷ [])) }
+    {
+        let fallen = self.watcher.see(entry)?;
+        note_entry(tables, &mut self.notes, list, entry, &fallen)?;
+        self.last = entry.at();
+        Ok(())
+    }
+}
+
+/// Notes what an entry says at which this came to nothing.
+fn note_entry(
     tables: &mut Tables,
     notes: &mut Notes,
     list: &mut Vec<Happening>,
-    seen: &Followed<'_>,
+    entry: &StoredEntry,
+    fallen: &[Fallen],
 ) -> Result<(), AllocError>
     ensures notes { OnOk result ((plan : PlanValue) (p : PeerNoValue) (L : Entries)
         → IsNoted plan p notes.old L
-        → IsNoted plan p notes.new (seen.now.entry.now ∷ L)) }
+        → IsNoted plan p notes.new (entry.now ∷ L)) }
     ensures tables { OnOk result ((plan : PlanValue) (p : PeerNoValue) (L : Entries)
         (hs : List HappeningValue) (sizes : List MeshSize)
         → IsNoted plan p notes.old L
-        → seen.now.fallen.items ≡ fell_away (peer_in plan p) L seen.now.entry.now.at seen.now.entry.now.event
+        → fallen.now ≡ fell_away (peer_in plan p) L entry.now.at entry.now.event
         → Shows plan tables.old hs sizes
-        → Shows plan tables.new (hs ++ entry_happenings plan p L seen.now.entry.now)
-        (sizes ++ entry_sizes L seen.now.entry.now)) }
+        → Shows plan tables.new (hs ++ entry_happenings plan p L entry.now)
+        (sizes ++ entry_sizes L entry.now)) }
 {
     list.clear();
-    notes.list_entry(list, seen.entry, &seen.fallen)?;
+    notes.list_entry(list, entry, fallen)?;
     tables.note_all(list)?;
-    note_sizes(tables, &notes.memory, seen.entry.at(), seen.entry.event());
+    note_sizes(tables, &notes.memory, entry.at(), entry.event());
     Ok(())
 }
 

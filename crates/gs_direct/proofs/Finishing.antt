@@ -40,7 +40,7 @@ firsts : {T : Type 0} → (plan : Plan) (peers : List (Peer T)) → map (λ (x :
 firsts plan [] = refl
 firsts plan (peer ∷ peers) = ap (λ (qs : List PeerNo). peer.number ∷ qs) (firsts plan peers)
 
-seconds : {T : Type 0} → (plan : Plan) (peers : List (Peer T)) → map (λ (x : PeerNo × Finished). x.1) (map (numbered plan) peers) ≡ map (left_of (moment_of (seat_in plan (peer_no 0)) Closing)) peers
+pub seconds : {T : Type 0} → (plan : Plan) (peers : List (Peer T)) → map (λ (x : PeerNo × Finished). x.1) (map (numbered plan) peers) ≡ map (left_of (moment_of (seat_in plan (peer_no 0)) Closing)) peers
 seconds plan [] = refl
 seconds plan (peer ∷ peers) = ap (λ (lives : List Finished). left_of (moment_of (seat_in plan (peer_no 0)) Closing) peer ∷ lives) (seconds plan peers)
 

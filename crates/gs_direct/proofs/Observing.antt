@@ -1,31 +1,35 @@
 -- What an observer has seen after one more peer.
-use Rattle.std.proofs.Common.{◌≡◌, ◌≤◌, ◌+◌, ℕ, zero, suc, Bool, true, false, if◌then◌else◌, List, [], ◌∷◌, ◌++◌, length, map, reverse, inl, inr, arith, refl, sym, ap, ap₂, subst, ◌∙◌}
-use Rattle.std.specs.Prelude.{Option, Some, None, option_map, slice_get, unwrap_or}
-use Rattle.std.specs.List.{AllByRecursion, AllZip}
+use Rattle.std.proofs.Common.{◌≡◌, ◌≤◌, ◌+◌, ◌*◌, ℕ, zero, suc, Bool, true, false, if◌then◌else◌, List, [], ◌∷◌, ◌++◌, length, map, reverse, inl, inr, arith, refl, sym, ap, ap₂, subst, ◌∙◌}
+use Rattle.std.specs.Prelude.{Option, Some, None, option_map, slice_get, unwrap_or, Vec}
+use Rattle.std.specs.List.{AllByRecursion, AllZip, range_with_len}
+use Rattle.std.specs.declared.alloc.Global.{Global}
 use Rattle.std.proofs.lemmas.Bool.{cases_lt, eqb-false, eqb-true, le-ltb, lt-ltb}
-use Rattle.std.proofs.lemmas.List.{reverse-reverse}
+use Rattle.std.proofs.lemmas.List.{length-map, reverse-reverse}
+use Rattle.std.proofs.lemmas.List.FromFn.{length-map-range_with_len}
 use Rattle.std.proofs.lemmas.Option.{same_Some, slice_get-map, slice_get_past}
 use Rattle.gs_base.specs.declared.names.Millis.{Millis}
 use Rattle.gs_base.specs.declared.names.PeerNo.{PeerNo}
 use Rattle.gs_base.specs.Names.{same_peer}
 use Rattle.gs_plan.specs.declared.plan.Plan.{Plan}
-use Rattle.gs_rules.specs.Rounds.{Closing, moment_of}
 use Rattle.gs_rules.specs.declared.trace.Entry.{Entry}
 use Rattle.gs_rules.specs.Tables.{Entries}
 use Rattle.gs_report.specs.declared.finished.Finished.{Finished}
+use Rattle.gs_report.specs.declared.report.Report.{Report}
 use Rattle.gs_router.specs.Log.{this_round}
 use Rattle.gs_router.specs.Router.{RouterView}
 use Rattle.gs_params.specs.Seeding.{seeded_after, seeded_word}
 use Rattle.gs_rules.specs.Modes.{exact}
 use Rattle.gs_router.specs.Following.{AreInOrder}
-use Rattle.gs_seats.specs.Rounds.{first_words, numbers, peer_in, peer_no, seat_in, trace_of}
+use Rattle.gs_seats.specs.Reports.{IsReport}
+use Rattle.gs_seats.specs.Rounds.{IsRun, first_words, numbers, peer_in, peer_no, trace_of}
 use Rattle.gs_seats.proofs.Ordered.{legal_in_order}
 use Rattle.gs_seats.proofs.ByNumber.{as_many, at_number}
 use Rattle.gs_direct.specs.declared.peer.Peer.{Peer}
-use Rattle.gs_direct.specs.declared.peer.Remains.{Remains}
-use Rattle.gs_direct.specs.Observing.{HasSeen, HaveGrown, added, shown}
-use Rattle.gs_direct.specs.Peers.{IsNewPeer, left_of, remains_of}
-use Rattle.gs_direct.specs.Runs.{IsAt, numbered, trace_at}
+use Rattle.gs_report.specs.declared.remains.Remains.{Remains}
+use Rattle.gs_direct.specs.Observing.{HasSeen, HasSeenReport, HaveGrown, shown}
+use Rattle.gs_report.specs.Seen.{added, remains_of}
+use Rattle.gs_direct.specs.Peers.{IsNewPeer, left_of}
+use Rattle.gs_direct.specs.Runs.{IsAt, trace_at}
 use Rattle.gs_direct.proofs.Turning.{trace_is}
 
 -- before the first peer, only the earlier traces are seen
@@ -121,21 +125,61 @@ new_traces {T} plan peers all p = elim (cases_lt p.0 (length plan.peers)) [
   | inr above ↦ none_past peers p (omega (arith, above, as_many (IsNewPeer plan) plan peers all))
 ]
 
--- ---- what remains
+-- ---- the report
 
-pub remains_numbers : {T : Type 0} → (plan : Plan) (list : List (PeerNo × Remains)) (peers : List (Peer T)) → list ≡ map (λ (x : PeerNo × Finished). (x.0, remains_of x.1)) (map (numbered plan) peers) → map (λ (x : PeerNo × Remains). x.0) list ≡ map (λ (x : PeerNo × Finished). x.0) (map (numbered plan) peers)
-remains_numbers {T} plan list peers is = ap (map (λ (x : PeerNo × Remains). x.0)) is ∙ each peers
+abbrev first_number : PeerNo → List PeerNo → PeerNo
+first_number other [] = other
+first_number other (p ∷ ps) = p
+
+abbrev later_numbers : List PeerNo → List PeerNo
+later_numbers [] = []
+later_numbers (p ∷ ps) = ps
+
+-- Lives that stand from a place on have the traces that are there.
+lives_from : (all : List Finished) (a : ℕ) (lives : List (PeerNo × Finished)) → map (λ (x : PeerNo × Finished). x.0) lives ≡ map peer_no (range_with_len a (length lives)) → ((k : ℕ) → slice_get (map (λ (x : PeerNo × Finished). x.1) lives) k ≡ slice_get all (a + k)) → AllByRecursion (λ (x : PeerNo × Finished). x.1.trace ≡ trace_of all x.0) lives
+lives_from all a [] numbers stand = tt
+lives_from all a (x ∷ xs) numbers stand =
+    let trace_in : Option Finished → Entries = λ found. unwrap_or (option_map (λ (life : Finished). life.trace) found) [] in
+    let number : x.0 ≡ peer_no a = ap (first_number x.0) numbers in
+    let found : Some x.1 ≡ slice_get all a = stand 0 ∙ ap (slice_get all) (omega arith) in (
+      ap trace_in found ∙ ap (trace_of all) (sym number),
+      lives_from all (a + 1) xs (ap later_numbers numbers) (λ k. stand (suc k) ∙ ap (slice_get all) (omega arith)),
+    )
+
+-- What a run leaves, with what was seen of it, is a report.
+pub seen_report : (saw : (PeerNo → Entries) → Type 0) (plan : Plan) (remains : Vec (PeerNo × Remains) Global) (lives : List (PeerNo × Finished)) → map (λ (x : PeerNo × Finished). x.0) lives ≡ numbers plan → IsRun plan (map (λ (x : PeerNo × Finished). x.1) lives) → HasSeen saw (trace_of (map (λ (x : PeerNo × Finished). x.1) lives)) → remains.items ≡ map (λ (x : PeerNo × Finished). (x.0, remains_of x.1)) lives → (report : Report) × IsReport plan report × HasSeenReport saw plan report × (remains.items ≡ map (λ (x : PeerNo × Finished). (x.0, remains_of x.1)) report.peers.items)
+seen_report saw plan remains lives by_number run seen are = (
+  record { peers = peers; settled = 2 * length plan.dials },
+  record { numbers_are = by_number; run = run; settled = refl },
+  record {
+    traces = seen.seen;
+    told = seen.told;
+    lives = record {
+      numbers = by_number;
+      same = all_same lives (lives_from all 0 lives (by_number ∙ ap (λ (n : ℕ). map peer_no (range_with_len 0 n)) (sym many)) (λ k. ap (slice_get all) (omega arith)));
+    };
+  },
+  are,
+)
   where
-    each : (ps : List (Peer T)) → map (λ (x : PeerNo × Remains). x.0) (map (λ (x : PeerNo × Finished). (x.0, remains_of x.1)) (map (numbered plan) ps)) ≡ map (λ (x : PeerNo × Finished). x.0) (map (numbered plan) ps)
-    each [] = refl
-    each (p ∷ ps) = ap (λ (qs : List PeerNo). p.number ∷ qs) (each ps)
+    all : List Finished
+    all = map (λ (x : PeerNo × Finished). x.1) lives
 
-pub remains_values : {T : Type 0} → (plan : Plan) (list : List (PeerNo × Remains)) (peers : List (Peer T)) → list ≡ map (λ (x : PeerNo × Finished). (x.0, remains_of x.1)) (map (numbered plan) peers) → map (λ (x : PeerNo × Remains). x.1) list ≡ map remains_of (map (left_of (moment_of (seat_in plan (peer_no 0)) Closing)) peers)
-remains_values {T} plan list peers is = ap (map (λ (x : PeerNo × Remains). x.1)) is ∙ each peers
-  where
-    now : Millis
-    now = moment_of (seat_in plan (peer_no 0)) Closing
+    many : length lives ≡ length plan.peers
+    many =
+        sym (length-map lives (λ (x : PeerNo × Finished). x.0)) ∙ ap length by_number ∙ length-map-range_with_len peer_no 0 (length plan.peers)
 
-    each : (ps : List (Peer T)) → map (λ (x : PeerNo × Remains). x.1) (map (λ (x : PeerNo × Finished). (x.0, remains_of x.1)) (map (numbered plan) ps)) ≡ map remains_of (map (left_of now) ps)
-    each [] = refl
-    each (p ∷ ps) = ap (λ (xs : List Remains). remains_of (left_of now p) ∷ xs) (each ps)
+    peers : Vec (PeerNo × Finished) Global
+    peers = record {
+      ptr = remains.ptr;
+      len = remains.len;
+      cap = remains.cap;
+      alloc = remains.alloc;
+      items = lives;
+      ok = (remains.ok.0 ∙ ap length are ∙ length-map lives (λ (x : PeerNo × Finished). (x.0, remains_of x.1)), remains.ok.1);
+      small = remains.small;
+    }
+
+    all_same : (xs : List (PeerNo × Finished)) → AllByRecursion (λ (x : PeerNo × Finished). x.1.trace ≡ trace_of all x.0) xs → AllByRecursion (λ (x : PeerNo × Finished). x.1.trace ≡ seen.seen x.0) xs
+    all_same [] h = tt
+    all_same (x ∷ xs) h = (h.0 ∙ sym (seen.same x.0), all_same xs h.1)

@@ -18,7 +18,6 @@ use Rattle.gs_router.specs.Log.{this_round}
 use Rattle.gs_player.specs.Playing.{Runs, behind_heard}
 use Rattle.gs_direct.specs.declared.letter.Letter.{Letter}
 use Rattle.gs_direct.specs.declared.peer.Peer.{Peer}
-use Rattle.gs_direct.specs.declared.peer.Remains.{Remains}
 use Rattle.gs_direct.specs.Letters.{all_heard}
 use Rattle.gs_direct.specs.Outlets.{IsHandedOver, IsNew, SaysAll, given}
 
@@ -63,7 +62,3 @@ left_of now peer = record {
   meshes = meshes_of peer.router.trace;
   scores = scores_of peer.router.peer peer.router.trace now.0;
 }
-
--- what is left besides the trace
-abbrev pub remains_of : Finished → Remains
-remains_of life = record { refused = life.refused; meshes = life.meshes; scores = life.scores }

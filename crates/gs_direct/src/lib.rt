@@ -4,13 +4,10 @@
 
 mod letter;
 mod link_reader;
-mod observer;
 mod outlet;
 mod outlets;
 mod peer;
 mod post;
 mod run;
 
-pub use observer::{Nobody, Observer};
-pub use peer::Remains;
 pub use run::{run_direct, run_observed};

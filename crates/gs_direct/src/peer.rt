@@ -4,36 +4,26 @@ ghost use Rattle.std.specs.List.{AllByRecursion};
 ghost use Rattle.gs_params.specs.Seeding.{seeded_after, seeded_word};
 ghost use Rattle.gs_plan.specs.Plans.{IsInRange};
 ghost use Rattle.gs_rules.specs.Modes.{exact};
-ghost use Rattle.gs_seats.specs.Rounds.{lines_in};
+ghost use Rattle.gs_seats.specs.Rounds.{lines_in, neighbours_in};
 ghost use Rattle.gs_rules.specs.Rounds.{Hear};
 ghost use Rattle.gs_player.specs.Playing.{IsRunning, RpcsFit, Runs};
 ghost use Rattle.gs_direct.specs.Letters.{LettersFit, all_heard, ending_heard, heard_of};
 ghost use Rattle.gs_direct.specs.Outlets.{Within};
-ghost use Rattle.gs_direct.specs.Peers.{Closes, HandsOver, IsNewPeer, PlaysRound, left_of, remains_of};
+ghost use Rattle.gs_direct.specs.Peers.{Closes, HandsOver, IsNewPeer, PlaysRound, left_of};
+ghost use Rattle.gs_report.specs.Seen.{remains_of};
 
 use crate::letter::{Ending, Letter};
 use crate::outlet::Outlet;
 use crate::outlets::{hand_over, outlets_of, tell_round};
-use gs_base::{Millis, PeerNo, Rpc, Seq, Shared, Topic};
+use gs_base::{Millis, Neighbour, PeerNo, Rpc, Seq, Shared};
 use gs_params::SeededWords;
 use gs_plan::{Line, Plan};
 use gs_player::{Agenda, decay_and_beat, follow_all, never_refused};
-use gs_report::Finished;
+use gs_report::{Finished, Remains};
 use gs_router::{Retention, Router, WholeTrace};
 use gs_rules::RefusedLine;
-use gs_seats::{first_words, neighbours_of, router_of};
+use gs_seats::{first_words, router_of};
 use std::alloc::{AllocError, Global};
-
-/// What a run leaves of a peer besides its trace.
-#[derive(Debug, Drop, PartialEq, Eq)]
-pub struct Remains {
-    /// The lines of the script that it could not follow.
-    pub refused: Seq<RefusedLine>,
-    /// The members of its meshes, topic by topic in the order of their bytes, members by number.
-    pub meshes: Seq<(Topic, PeerNo)>,
-    /// Its neighbours' scores in millionths, by number.
-    pub scores: Seq<(PeerNo, i128)>,
-}
 
 /// A peer between two rounds.
 #[derive(Drop)]
@@ -52,7 +42,7 @@ pub struct Peer<K: Retention> {
 }
 
 impl<K: Retention> Peer<K> {
-    /// Returns a peer of a plan that has done nothing, with its lines of the script.
+    /// Returns a peer of a plan that has done nothing, with its neighbours and its lines of the script.
     ///
     /// # Errors
     /// `AllocError` when out of memory.
@@ -60,15 +50,16 @@ impl<K: Retention> Peer<K> {
         alloc: Global,
         plan: &Plan,
         number: PeerNo,
+        neighbours: Vec<Neighbour>,
         lines: Vec<(usize, Line)>,
     ) -> Result<Peer<K>, AllocError>
         requires range { IsInRange plan.now }
+        requires neighbours { neighbours.items ≡ neighbours_in plan.now number }
         requires own { lines.items ≡ lines_in plan.now number }
         ensures { IfOk result (IsNewPeer plan.now number) }
     {
         let words = first_words(alloc, plan, number)?;
         let agenda = Agenda::of(alloc, lines)?;
-        let neighbours = neighbours_of(alloc, plan, number)?;
         let outlets = outlets_of(alloc, &neighbours)?;
         // (last, so that no exit has a router to drop)
         let router = router_of(alloc, plan, number, neighbours)?;

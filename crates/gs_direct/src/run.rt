@@ -3,25 +3,26 @@ ghost use Rattle.std.specs.Prelude.{◌≡◌, ◌≤◌, [], suc, false, List, 
 ghost use Rattle.std.specs.List.{AllByRecursion, AllZip};
 ghost use Rattle.gs_base.specs.declared.names.PeerNo.{PeerNo as PeerNoValue};
 ghost use Rattle.gs_plan.specs.Plans.{IsInRange};
+ghost use Rattle.gs_report.specs.Seen.{remains_of};
 ghost use Rattle.gs_report.specs.declared.finished.Finished.{Finished as FinishedValue};
+ghost use Rattle.gs_report.specs.declared.report.Report.{Report as ReportValue};
 ghost use Rattle.gs_rules.specs.Rounds.{Closing, moment_of};
 ghost use Rattle.gs_rules.specs.Tables.{Entries};
 ghost use Rattle.gs_router.specs.Following.{AreInOrder};
 ghost use Rattle.gs_seats.specs.Faults.{number_of};
 ghost use Rattle.gs_seats.specs.Reports.{IsReport};
 ghost use Rattle.gs_seats.specs.Rounds.{IsRun, numbers, peer_no, seat_in, trace_of};
-ghost use Rattle.gs_direct.specs.Observing.{HasSeen, HaveGrown};
-ghost use Rattle.gs_direct.specs.Peers.{IsNewPeer, remains_of};
+ghost use Rattle.gs_direct.specs.Observing.{HasSeen, HasSeenReport, HaveGrown};
+ghost use Rattle.gs_direct.specs.Peers.{IsNewPeer};
 ghost use Rattle.gs_direct.specs.Runs.{AreAt, HaveClosed, HaveEnded, IsRoomFor, numbered, trace_at};
 
-use crate::observer::{Nobody, Observer};
-use crate::peer::{Peer, Remains};
+use crate::peer::Peer;
 use crate::post::Post;
 use gs_base::{Millis, PeerNo};
 use gs_plan::Plan;
-use gs_report::{Finished, Report};
+use gs_report::{Finished, Remains, Report};
 use gs_router::{LastRound, Retention, WholeTrace};
-use gs_seats::{NetFault, lines_by_peer, take_list};
+use gs_seats::{Neighbourhoods, NetFault, Nobody, Observer, lines_by_peer, take_list};
 use std::alloc::{AllocError, Global};
 
 /// Runs the peers of a plan on this thread, without links. In each round, one peer after the other hears what its neighbours
@@ -45,7 +46,8 @@ pub fn run_direct(alloc: Global, plan: &Plan) -> Result<Report, NetFault>
 }
 
 /// Runs the peers of a plan as `run_direct` does. An observer sees all that they do, and no trace is kept. It has seen
-/// nothing before. What is returned is what the run leaves of each peer besides its trace, by number.
+/// nothing before. What is returned is what the run leaves of each peer besides its trace, by number. There is a report of
+/// the plan that has just these traces and just this.
 ///
 /// # Errors
 /// `NoMemory` when out of memory. It names no peer, and the clause leaves that open.
@@ -56,11 +58,11 @@ pub fn run_observed<O: Observer>(
 ) -> Result<Vec<(PeerNo, Remains)>, NetFault>
     requires range { IsInRange plan.now }
     requires new { O.saw observer.old (λ p. []) }
-    ensures run { IfOk result (λ remains. (lives : List FinishedValue)
-        × IsRun plan.now lives
-        × HasSeen (O.saw observer.new) (trace_of lives)
-        × (map (λ x. x.0) remains.items ≡ numbers plan.now)
-        × (map (λ x. x.1) remains.items ≡ map remains_of lives)) }
+    ensures run { IfOk result (λ remains. (report : ReportValue)
+        × IsReport plan.now report
+        × HasSeenReport (O.saw observer.new) plan.now report
+        × (remains.items ≡ map (λ x. (x.0, remains_of x.1)) report.peers.items)) }
+    ensures question { OnOk result (O.question observer.new ≡ O.question observer.old) }
     ensures memory { IfErr result (λ fault. number_of fault ≡ 24) }
 {
     match remains_seen(alloc, plan, observer) {
@@ -77,11 +79,12 @@ fn remains_seen<O: Observer>(
 ) -> Result<Vec<(PeerNo, Remains)>, AllocError>
     requires range { IsInRange plan.now }
     requires new { O.saw observer.old (λ p. []) }
-    ensures { IfOk result (λ remains. (lives : List FinishedValue)
-        × IsRun plan.now lives
-        × HasSeen (O.saw observer.new) (trace_of lives)
-        × (map (λ x. x.0) remains.items ≡ numbers plan.now)
-        × (map (λ x. x.1) remains.items ≡ map remains_of lives)) }
+    ensures run { IfOk result (λ remains. (lives : List (PeerNoValue × FinishedValue))
+        × (map (λ x. x.0) lives ≡ numbers plan.now)
+        × IsRun plan.now (map (λ x. x.1) lives)
+        × HasSeen (O.saw observer.new) (trace_of (map (λ x. x.1) lives))
+        × (remains.items ≡ map (λ x. (x.0, remains_of x.1)) lives)) }
+    ensures question { OnOk result (O.question observer.new ≡ O.question observer.old) }
 {
     let mut peers = peers_of::<LastRound>(alloc, plan)?;
     let mut post = Post::new(alloc, plan.peers.len())?;
@@ -106,13 +109,15 @@ fn peers_of<K: Retention>(alloc: Global, plan: &Plan) -> Result<Vec<Peer<K>>, Al
     requires { IsInRange plan.now }
     ensures { IfOk result (λ peers. AllZip (IsNewPeer plan.now) (numbers plan.now) peers.items) }
 {
+    let neighbourhoods = Neighbourhoods::of(alloc, plan)?;
     let mut lines = lines_by_peer(alloc, plan)?;
     let mut peers = Vec::with_capacity(alloc, plan.peers.len())?;
     let count = plan.peers.len() as u16;
     for number in 0..count {
         let peer = PeerNo(number);
+        let neighbours = neighbourhoods.neighbours(alloc, plan, peer)?;
         let own = take_list(alloc, &mut lines, peer);
-        peers.push(Peer::new(alloc, plan, peer, own)?)?;
+        peers.push(Peer::new(alloc, plan, peer, neighbours, own)?)?;
     }
     Ok(peers)
 }
@@ -130,6 +135,7 @@ fn run_all<K: Retention, O: Observer>(
     requires saw { HasSeen (O.saw observer.old) (trace_at peers.old) }
     ensures ended { OnOk result (HaveEnded plan.now peers.new) }
     ensures saw { OnOk result (HasSeen (O.saw observer.new) (trace_at peers.new)) }
+    ensures question { OnOk result (O.question observer.new ≡ O.question observer.old) }
 {
     play_all(plan, peers, post, observer)?;
     close_all(plan, peers, post)?;
@@ -150,6 +156,7 @@ fn play_all<K: Retention, O: Observer>(
     requires saw { HasSeen (O.saw observer.old) (trace_at peers.old) }
     ensures played { OnOk result (AreAt plan.now (suc plan.now.rounds) peers.new post.new.mail.items) }
     ensures saw { OnOk result (HasSeen (O.saw observer.new) (trace_at peers.new)) }
+    ensures question { OnOk result (O.question observer.new ≡ O.question observer.old) }
 {
     for round in 0..plan.rounds + 1 {
         play_round(plan, peers, post, round)?;
@@ -169,7 +176,8 @@ fn observe<K: Retention, O: Observer>(
     requires order { AllByRecursion (λ peer. AreInOrder peer.router.trace) peers.now }
     requires saw { (before : PeerNoValue → Entries)
         × HasSeen (O.saw observer.old) before × HaveGrown before (trace_at peers.now) }
-    ensures { OnOk result (HasSeen (O.saw observer.new) (trace_at peers.now)) }
+    ensures saw { OnOk result (HasSeen (O.saw observer.new) (trace_at peers.now)) }
+    ensures question { OnOk result (O.question observer.new ≡ O.question observer.old) }
 {
     let count = plan.peers.len() as u16;
     for number in 0..count {

@@ -30,7 +30,7 @@ pub weaker : {A : Type 0} (P Q : A → Type 0) → ((x : A) → P x → Q x) →
 weaker P Q so [] all = tt
 weaker P Q so (x ∷ xs) all = (so x all.0, weaker P Q so xs all.1)
 
-both : {A : Type 0} (P : A → Type 0) (xs ys : List A) → AllByRecursion P xs → AllByRecursion P ys → AllByRecursion P (xs ++ ys)
+pub both : {A : Type 0} (P : A → Type 0) (xs ys : List A) → AllByRecursion P xs → AllByRecursion P ys → AllByRecursion P (xs ++ ys)
 both P [] ys p q = q
 both P (x ∷ xs) ys p q = (p.0, both P xs ys p.1 q)
 
@@ -119,7 +119,7 @@ found_is : {A : Type 0} (amount : A → ℤ) (xs : List A) (found : Option A) �
 found_is {A = A} amount xs None h = ap (λ (ys : List A). lowest amount ys) (sym h)
 found_is amount xs (Some x) h = sym (first_is_lowest amount xs x h)
 
-lowest_is : {A : Type 0} (amount : A → ℤ) (xs : List A) → lower_of_all amount None xs ≡ lowest amount xs
+pub lowest_is : {A : Type 0} (amount : A → ℤ) (xs : List A) → lower_of_all amount None xs ≡ lowest amount xs
 lowest_is amount xs = found_is amount xs (lower_of_all amount None xs) (all_found amount [] xs None refl)
 
 pub lowest_more : {A : Type 0} (amount : A → ℤ) (xs : List A) (y : A) → lower amount (lowest amount xs) y ≡ lowest amount (xs ++ y ∷ [])

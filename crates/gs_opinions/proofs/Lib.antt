@@ -5,6 +5,12 @@ mod Numbered
 mod Mapped
 mod OneMore
 mod Noted
+mod Zipped
+mod Ascending
+mod Lowered
 mod Listing
+mod Moved
 mod Reading
 mod Listed
+mod Judged
+mod Seated

@@ -1,36 +1,40 @@
 -- The rows of tables, and what they show.
 use Rattle.std.proofs.Common.{◌≡◌, ◌<◌, ℕ, ℤ, ◌+◌, List, [], ◌∷◌, length, map, refl, ap, ap₂, ◌∙◌}
-use Rattle.std.specs.Prelude.{Option, None, filter, unwrap_or}
+use Rattle.std.specs.Prelude.{Option, None, Some, filter, unwrap_or}
+use Rattle.std.specs.BTreeMap.{BTreeMap}
 use Rattle.std.specs.List.{AllZip}
 use Rattle.gs_plan.specs.declared.plan.Plan.{Plan}
 use Rattle.gs_reach.specs.declared.chosen.Chosen.{Chosen}
+use Rattle.gs_base.specs.declared.names.PeerNo.{PeerNo}
 use Rattle.gs_seats.specs.Rounds.{peer_no}
 use Rattle.gs_opinions.specs.declared.opinion.Lowest.{Lowest}
 use Rattle.gs_opinions.specs.declared.opinion.Opinion.{Opinion}
 use Rattle.gs_opinions.specs.declared.tables.GroupRounds.{GroupRounds}
 use Rattle.gs_opinions.specs.declared.tables.Tables.{Tables}
 use Rattle.gs_opinions.specs.Cells.{by_number, cell_at}
-use Rattle.gs_opinions.specs.Listing.{all_rows, groups_at, round_at, rows_by}
-use Rattle.gs_opinions.specs.Noting.{Shows, ShowsGroup, between_numbers, pair_cells}
-use Rattle.gs_opinions.specs.Runs.{is_about, lowest_in_round, pair_row, pairs_by, pairs_of, round_row, rounds_of}
+use Rattle.gs_opinions.specs.Listing.{all_rows, groups_at, round_at, rows_at, rows_by}
+use Rattle.gs_opinions.specs.Noting.{Shows, ShowsGroup, ShowsPairs, ShowsRow, lowest_of}
+use Rattle.gs_opinions.specs.Runs.{is_about, lowest_between, lowest_in_round, pair_row, pairs_by, pairs_of, round_row, rounds_of}
 use Rattle.gs_opinions.proofs.Numbered.{all_same, flat_same, got}
+use Rattle.gs_opinions.proofs.Zipped.{stands}
 
 module _ (plan : Plan) (os : List Opinion) where
   abbrev count : ℕ
   count = length plan.peers
 
-  abbrev row : ℕ → List (Option Lowest)
-  row n = by_number (between_numbers os n) count
+  row_listed : (p : PeerNo) (row : BTreeMap PeerNo Lowest) → ShowsRow os p row → rows_by p row count ≡ pairs_by plan os p
+  row_listed p row shows =
+      flat_same (λ m. pair_row p (peer_no m) (lowest_of row (peer_no m))) (λ q. pair_row p q (lowest_between os p q)) count
+      (λ m low. ap (pair_row p (peer_no m)) (shows (peer_no m)))
 
-  row_listed : (n : ℕ) → rows_by (peer_no n) (row n) count ≡ pairs_by plan os (peer_no n)
-  row_listed n =
-      flat_same (λ m. pair_row (peer_no n) (peer_no m) (cell_at (row n) m)) _ count
-      (λ m low. ap (λ (o : Option (Option Lowest)). pair_row (peer_no n) (peer_no m) (unwrap_or o None)) (got (between_numbers os n) count m low))
-
-  pub pairs_listed : all_rows count (pair_cells plan os) ≡ pairs_of plan os
-  pairs_listed =
-      flat_same _ (pairs_by plan os) count
-      (λ n low. ap (λ (o : Option (List (Option Lowest))). rows_by (peer_no n) (unwrap_or o []) count) (got row count n low) ∙ row_listed n)
+  pub pairs_listed : (rows : List (BTreeMap PeerNo Lowest)) → ShowsPairs plan rows os → all_rows count rows ≡ pairs_of plan os
+  pairs_listed rows shows = flat_same (rows_at rows count) (pairs_by plan os) count at
+    where
+      at : (n : ℕ) → n < count → rows_at rows count n ≡ pairs_by plan os (peer_no n)
+      at n low =
+          let found = stands (ShowsRow os) count n low rows shows in
+          ap (λ (o : Option (BTreeMap PeerNo Lowest)). elim o [ None ↦ [] | Some row ↦ rows_by (peer_no n) row count ]) found.1
+          ∙ row_listed (peer_no n) found.0 found.2
 
   groups_listed : (r : ℕ) → r < plan.rounds + 1 → (groups : List Chosen) (xs : List GroupRounds) → AllZip (ShowsGroup plan os) groups xs
       → groups_at r xs ≡ map (λ (group : Chosen). lowest_in_round plan (filter (is_about group) os) r) groups

@@ -1,5 +1,5 @@
 -- Tables after one opinion more.
-use Rattle.std.proofs.Common.{◌≡◌, ℕ, ◌+◌, ◌<◌, Bool, true, false, if◌then◌else◌, List, [], ◌∷◌, ◌++◌, filter, get_or, length, map, take, sym, ap, subst, ◌∙◌, append_assoc}
+use Rattle.std.proofs.Common.{◌≡◌, ℕ, ◌+◌, ◌<◌, Bool, true, false, if◌then◌else◌, List, [], ◌∷◌, ◌++◌, filter, get_or, length, map, take, sym, ap, subst, ◌∙◌}
 use Rattle.std.specs.List.{AllZip}
 use Rattle.std.proofs.lemmas.List.{take_more}
 use Rattle.gs_plan.specs.declared.plan.Plan.{Plan}
@@ -7,9 +7,9 @@ use Rattle.gs_reach.specs.declared.chosen.Chosen.{Chosen}
 use Rattle.gs_opinions.specs.declared.opinion.Opinion.{Opinion}
 use Rattle.gs_opinions.specs.declared.tables.GroupRounds.{GroupRounds}
 use Rattle.gs_opinions.specs.declared.tables.Tables.{Tables}
-use Rattle.gs_opinions.specs.Noting.{Shows, ShowsGroup, is_member, lowered_between, lowered_group, lowered_in_round, round_cells}
+use Rattle.gs_opinions.specs.Noting.{Shows, ShowsGroup, ShowsPairs, is_member, lowered_group, lowered_in_round, round_cells}
 use Rattle.gs_opinions.specs.Runs.{is_about, round_of}
-use Rattle.gs_opinions.proofs.OneMore.{about_more, pairs_more, rounds_more}
+use Rattle.gs_opinions.proofs.OneMore.{about_more, rounds_more}
 
 -- ---- groups
 
@@ -39,26 +39,23 @@ module _ (plan : Plan) (os : List Opinion) (o : Opinion) where
 
   pub noted : (groups : List Chosen) (old new : Tables)
       → Shows plan groups old os
-      → new.pairs.items ≡ lowered_between o old.pairs.items
+      → new.round_ms ≡ old.round_ms
+      → ShowsPairs plan new.pairs.items (os ++ o ∷ [])
       → new.rounds ≡ lowered_in_round (round_of plan o.at) o.score old.rounds
       → new.groups.items ≡ map (lowered_group (round_of plan o.at) o) old.groups.items
       → Shows plan groups new (os ++ o ∷ [])
-  noted groups old new was pairs rounds lowered = record {
-    pairs = pairs ∙ ap (lowered_between o) was.pairs ∙ pairs_more plan os o;
+  noted groups old new was same pairs rounds lowered = record {
+    lasts = was.lasts;
+    round_ms = same ∙ was.round_ms;
+    pairs = pairs;
     rounds = rounds ∙ ap (lowered_in_round (round_of plan o.at) o.score) was.rounds ∙ rounds_more plan os o;
     groups = subst (AllZip (ShowsGroup plan (os ++ o ∷ [])) groups) (sym lowered) (groups_more groups old.groups.items was.groups);
   }
 
 -- ---- loops
 
--- the opinions so far, and one more
-pub one_more : {A : Type 0} (first xs : List A) (i : ℕ) (x d : A) → i < length xs → x ≡ get_or xs i d → (first ++ take i xs) ++ x ∷ [] ≡ first ++ take (i + 1) xs
-one_more first xs i x d below is =
-    append_assoc first (take i xs) (x ∷ [])
-    ∙ ap (λ zs. first ++ zs) (ap (λ y. take i xs ++ y ∷ []) is ∙ sym (take_more xs i d below))
-
 -- one group more
-all_zip_push : {A B : Type 0} (R : A → B → Type 0) (xs : List A) (ys : List B) (x : A) (y : B) → AllZip R xs ys → R x y → AllZip R (xs ++ x ∷ []) (ys ++ y ∷ [])
+pub all_zip_push : {A B : Type 0} (R : A → B → Type 0) (xs : List A) (ys : List B) (x : A) (y : B) → AllZip R xs ys → R x y → AllZip R (xs ++ x ∷ []) (ys ++ y ∷ [])
 all_zip_push R [] [] x y h r = (r, tt)
 all_zip_push R [] (b ∷ ys) x y h r = absurd h
 all_zip_push R (a ∷ xs) [] x y h r = absurd h

@@ -1,9 +1,8 @@
 -- Rows by number, and what stands in them.
-use Rattle.std.proofs.Common.{◌≡◌, ◌<◌, ◌≤◌, ℕ, zero, suc, ◌+◌, List, [], ◌∷◌, ◌++◌, flat_map, get_or, length, map, refl, sym, ap, ap₂, ◌∙◌, append-nil, append_assoc, arith, add-one, zero-add}
-use Rattle.std.specs.Prelude.{Option, None, Some, slice_get, unwrap_or}
+use Rattle.std.proofs.Common.{◌≡◌, ◌<◌, ◌≤◌, ℕ, zero, suc, ◌+◌, List, [], ◌∷◌, ◌++◌, flat_map, map, refl, sym, ap, ap₂, ◌∙◌, append-nil, append_assoc, arith, add-one, zero-add}
+use Rattle.std.specs.Prelude.{None, Some, slice_get}
 use Rattle.std.specs.List.{range_with_len}
 use Rattle.std.proofs.lemmas.List.FromFn.{map-range_with_len_more}
-use Rattle.std.proofs.lemmas.Option.{slice_get-get_or}
 use Rattle.gs_base.specs.declared.names.PeerNo.{PeerNo}
 use Rattle.gs_seats.specs.Rounds.{peer_no}
 use Rattle.gs_opinions.specs.Cells.{by_number}
@@ -42,11 +41,6 @@ or_got_from f a (suc n) (suc k) j is = or_got_from f (a + 1) n k j (omega (arith
 
 pub or_got : {A : Type 0} (f : ℕ → A) (count k : ℕ) → elim (slice_get (by_number f count) k) [ None ↦ f k | Some x ↦ x ] ≡ f k
 or_got f count k = or_got_from f 0 count k k (zero-add k)
-
--- what stands at a place of a slice
-pub at_place : {A : Type 0} (xs : List A) (k n : ℕ) (x d : A) → k ≡ n → n < length xs → x ≡ get_or xs k x → x ≡ unwrap_or (slice_get xs n) d
-at_place {A} xs k n x d same low is =
-    is ∙ ap (λ i. get_or xs i x) same ∙ sym (ap (λ (o : Option A). unwrap_or o d) (slice_get-get_or xs n x low))
 
 -- ---- all rows
 

@@ -1,16 +1,16 @@
 -- One opinion more: what is the lowest then.
-use Rattle.std.proofs.Common.{◌≡◌, ℕ, ◌+◌, Bool, true, false, if◌then◌else◌, List, [], ◌∷◌, ◌++◌, Option, None, Some, filter, length, nat_eq, refl, sym, ap, ap₂, ◌∙◌, append-nil}
+use Rattle.std.proofs.Common.{◌≡◌, ℕ, ◌+◌, Bool, true, false, if◌then◌else◌, List, [], ◌∷◌, ◌++◌, Option, None, Some, filter, refl, sym, ap, ◌∙◌, append-nil}
 use Rattle.std.specs.Prelude.{◌&&◌, int_lt, option_map}
+use Rattle.std.specs.BTreeMap.{BTreeMap}
 use Rattle.std.proofs.lemmas.List.Elements.{filter-append}
 use Rattle.gs_base.specs.declared.names.PeerNo.{PeerNo}
+use Rattle.gs_base.specs.Names.{same_peer}
 use Rattle.gs_plan.specs.declared.plan.Plan.{Plan}
 use Rattle.gs_reach.specs.declared.chosen.Chosen.{Chosen}
-use Rattle.gs_seats.specs.Rounds.{peer_no}
 use Rattle.gs_opinions.specs.declared.opinion.Lowest.{Lowest}
 use Rattle.gs_opinions.specs.declared.opinion.Opinion.{Opinion}
-use Rattle.gs_opinions.specs.Cells.{by_number, changed_at}
 use Rattle.gs_opinions.specs.Lowest.{lowest}
-use Rattle.gs_opinions.specs.Noting.{between_numbers, lower, lower_opinion, lower_score, lowered_between, lowered_in_round, pair_cells, round_cells}
+use Rattle.gs_opinions.specs.Noting.{ShowsRow, lower, lower_opinion, lower_score, lowered_in_round, lowest_of, round_cells}
 use Rattle.gs_opinions.specs.Runs.{is_about, is_between, is_in, lowest_between, lowest_in, lowest_in_round, round_of, score_in}
 use Rattle.gs_opinions.proofs.Least.{lowest_more}
 use Rattle.gs_opinions.proofs.Places.{changed}
@@ -36,7 +36,7 @@ lowest_told (Some x) o = by (int_lt o.score x.score)
     by true = refl
     by false = refl
 
-score_told : (found : Option Opinion) (o : Opinion) → option_map score_in (lower score_in found o) ≡ lower_score o.score (option_map score_in found)
+pub score_told : (found : Option Opinion) (o : Opinion) → option_map score_in (lower score_in found o) ≡ lower_score o.score (option_map score_in found)
 score_told None o = refl
 score_told (Some x) o = by (int_lt o.score x.score)
   where
@@ -60,26 +60,18 @@ module _ (plan : Plan) (os : List Opinion) (o : Opinion) where
   rounds_more =
       changed (lower_score o.score) (lowest_in_round plan os) (lowest_in_round plan more) (round_of plan o.at) (λ r is. in_round_more plan r os o true is) (λ r is. in_round_more plan r os o false is) (plan.rounds + 1)
 
-  abbrev count : ℕ
-  count = length plan.peers
+  -- the row of who gives the opinion
+  pub row_more : (p : PeerNo) (old new : BTreeMap PeerNo Lowest) → same_peer o.by p ≡ true
+      → ((q : PeerNo) → lowest_of new q ≡ (if same_peer o.of q then lower_opinion o (lowest_of old q) else lowest_of old q))
+      → ShowsRow os p old → ShowsRow more p new
+  row_more p old new by lowered was = λ q.
+      lowered q
+      ∙ ap (λ (found : Option Lowest). if same_peer o.of q then lower_opinion o found else found) (was q)
+      ∙ sym (between_more p q os o (same_peer o.of q) (ap (λ (b : Bool). b && same_peer o.of q) by))
 
-  abbrev row : List Opinion → ℕ → List (Option Lowest)
-  row xs n = by_number (between_numbers xs n) count
-
-  here : (n : ℕ) → nat_eq o.by.0 n ≡ true → row more n ≡ changed_at (lower_opinion o) (row os n) o.of.0
-  here n by =
-      sym (
-      changed (lower_opinion o) (between_numbers os n) (between_numbers more n) o.of.0
-      (λ m of. between_more (peer_no n) (peer_no m) os o true (ap₂ (λ (a b : Bool). a && b) by of))
-      (λ m of. between_more (peer_no n) (peer_no m) os o false (ap₂ (λ (a b : Bool). a && b) by of))
-      count
-      )
-
-  others : (n : ℕ) → nat_eq o.by.0 n ≡ false → row more n ≡ row os n
-  others n by = λ i. by_number (λ m. between_more (peer_no n) (peer_no m) os o false (ap (λ (a : Bool). a && nat_eq o.of.0 m) by) i) count
-
-  pub pairs_more : lowered_between o (pair_cells plan os) ≡ pair_cells plan more
-  pairs_more = changed (λ cells. changed_at (lower_opinion o) cells o.of.0) (row os) (row more) o.by.0 here others count
+  -- that of another peer
+  pub row_stays : (p : PeerNo) (row : BTreeMap PeerNo Lowest) → same_peer o.by p ≡ false → ShowsRow os p row → ShowsRow more p row
+  row_stays p row by was = λ q. was q ∙ sym (between_more p q os o false (ap (λ (b : Bool). b && same_peer o.of q) by))
 
   -- ---- groups
 

@@ -5,10 +5,10 @@ use Rattle.std.specs.List.{range_with_len}
 use Rattle.std.proofs.lemmas.Bool.Decides.{nat_tests}
 use Rattle.gs_opinions.specs.Cells.{changed_at}
 
-apart : (j r : ℕ) → j < r → nat_eq j r ≡ false
+pub apart : (j r : ℕ) → j < r → nat_eq j r ≡ false
 apart j r below = grind (arith, nat_tests)
 
-above : (j r : ℕ) → r < j → nat_eq j r ≡ false
+pub above : (j r : ℕ) → r < j → nat_eq j r ≡ false
 above j r below = grind (arith, nat_tests)
 
 same : (j r : ℕ) → r ≡ j → nat_eq j r ≡ true

@@ -5,3 +5,4 @@ pub mod Cells
 pub mod Noting
 pub mod Reading
 pub mod Listing
+pub mod Judging

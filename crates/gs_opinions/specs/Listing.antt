@@ -1,5 +1,6 @@
 -- Rows of the tables in their order.
-use Rattle.std.specs.Prelude.{ℕ, ℤ, List, [], map, Option, slice_get, unwrap_or}
+use Rattle.std.specs.Prelude.{ℕ, ℤ, nat_lt, if◌then◌else◌, List, [], ◌∷◌, map, None, Option, Some, slice_get}
+use Rattle.std.specs.BTreeMap.{BTreeMap}
 use Rattle.std.specs.List.{flat_map, range_with_len}
 use Rattle.gs_base.specs.declared.names.PeerNo.{PeerNo}
 use Rattle.gs_seats.specs.Rounds.{peer_no}
@@ -9,22 +10,25 @@ use Rattle.gs_opinions.specs.declared.run.RoundOpinions.{RoundOpinions}
 use Rattle.gs_opinions.specs.declared.tables.GroupRounds.{GroupRounds}
 use Rattle.gs_opinions.specs.declared.tables.Tables.{Tables}
 use Rattle.gs_opinions.specs.Cells.{cell_at}
+use Rattle.gs_opinions.specs.Noting.{lowest_of}
 use Rattle.gs_opinions.specs.Runs.{pair_row}
 
 -- ---- pairs
 
-abbrev pub pair_in : PeerNo → List (Option Lowest) → PeerNo → List PairOpinion
-pair_in p row q = pair_row p q (cell_at row q.0)
+-- a row, if it is about one of this many peers
+abbrev pub pair_below : ℕ → PairOpinion → List PairOpinion
+pair_below count pair = if nat_lt pair.of.0 count then pair ∷ [] else []
 
-abbrev pub rows_by : PeerNo → List (Option Lowest) → ℕ → List PairOpinion
-rows_by p row count = flat_map (λ m. pair_in p row (peer_no m)) (range_with_len 0 count)
+-- what a peer scores each of this many peers, by number
+abbrev pub rows_by : PeerNo → BTreeMap PeerNo Lowest → ℕ → List PairOpinion
+rows_by p row count = flat_map (λ m. pair_row p (peer_no m) (lowest_of row (peer_no m))) (range_with_len 0 count)
 
--- the cells of a peer
-abbrev pub row_at : List (List (Option Lowest)) → ℕ → List (Option Lowest)
-row_at rows n = unwrap_or (slice_get rows n) []
+-- what the peer with a number scores them, if the table has a row for it
+abbrev pub rows_at : List (BTreeMap PeerNo Lowest) → ℕ → ℕ → List PairOpinion
+rows_at rows count n = elim (slice_get rows n) [ None ↦ [] | Some row ↦ rows_by (peer_no n) row count ]
 
-abbrev pub all_rows : ℕ → List (List (Option Lowest)) → List PairOpinion
-all_rows count rows = flat_map (λ n. rows_by (peer_no n) (row_at rows n) count) (range_with_len 0 count)
+abbrev pub all_rows : ℕ → List (BTreeMap PeerNo Lowest) → List PairOpinion
+all_rows count rows = flat_map (rows_at rows count) (range_with_len 0 count)
 
 -- ---- rounds
 

@@ -1,11 +1,15 @@
 -- How one more opinion changes tables, and what tables show.
-use Rattle.std.specs.Prelude.{◌≡◌, ℕ, ℤ, ◌+◌, int_lt, Bool, true, if◌then◌else◌, List, filter, length, None, Option, Some, slice_get}
+use Rattle.std.specs.Prelude.{◌≡◌, ◌<◌, ℕ, ℤ, ◌+◌, int_lt, Bool, true, if◌then◌else◌, List, filter, None, Option, Some, slice_get}
+use Rattle.std.specs.BTreeMap.{BTreeMap}
 use Rattle.std.specs.List.{AllZip}
+use Rattle.std.specs.Map.{lookup}
+use Rattle.std.specs.Ordering.{is_eq, nat_cmp}
+use Rattle.std.specs.declared.cmp.Ordering.{Ordering}
 use Rattle.gs_base.specs.declared.names.PeerNo.{PeerNo}
 use Rattle.gs_plan.specs.declared.plan.Plan.{Plan}
 use Rattle.gs_reach.specs.declared.chosen.Chosen.{Chosen}
 use Rattle.gs_reach.specs.Chosen.{is_chosen}
-use Rattle.gs_seats.specs.Rounds.{peer_no}
+use Rattle.gs_seats.specs.Rounds.{numbers, peer_no}
 use Rattle.gs_opinions.specs.declared.members.Members.{Members}
 use Rattle.gs_opinions.specs.declared.opinion.Lowest.{Lowest}
 use Rattle.gs_opinions.specs.declared.opinion.Opinion.{Opinion}
@@ -33,8 +37,13 @@ lower_score score found = lower (λ z. z) found score
 
 -- ---- tables
 
-abbrev pub lowered_between : Opinion → List (List (Option Lowest)) → List (List (Option Lowest))
-lowered_between o rows = changed_at (λ row. changed_at (lower_opinion o) row o.of.0) rows o.by.0
+-- the order of peers is that of their numbers
+abbrev pub peer_order : PeerNo → PeerNo → Ordering
+peer_order p q = nat_cmp p.0 q.0
+
+-- the lowest that a peer scores another, by the first one's row
+abbrev pub lowest_of : BTreeMap PeerNo Lowest → PeerNo → Option Lowest
+lowest_of row q = lookup (λ r. is_eq (peer_order q r)) row.entries
 
 abbrev pub lowered_in_round : ℕ → ℤ → List (Option ℤ) → List (Option ℤ)
 lowered_in_round round score cells = changed_at (lower_score score) cells round
@@ -52,17 +61,15 @@ abbrev pub lowered_group : ℕ → Opinion → GroupRounds → GroupRounds
 lowered_group round o x =
     if is_member x.members o.of then record x { rounds = lowered_in_round round o.score x.rounds } else x
 
--- rows of empty cells
-abbrev pub empty_rows : ℕ → List (List (Option Lowest))
-empty_rows count = by_number (λ n. by_number (λ m. None) count) count
-
 -- ---- what they show
 
-abbrev pub between_numbers : List Opinion → ℕ → ℕ → Option Lowest
-between_numbers os n m = lowest_between os (peer_no n) (peer_no m)
+-- the row of a peer shows these opinions
+abbrev pub ShowsRow : List Opinion → PeerNo → BTreeMap PeerNo Lowest → Type 0
+ShowsRow os p row = (q : PeerNo) → lowest_of row q ≡ lowest_between os p q
 
-abbrev pub pair_cells : Plan → List Opinion → List (List (Option Lowest))
-pair_cells plan os = by_number (λ n. by_number (between_numbers os n) (length plan.peers)) (length plan.peers)
+-- so do the rows of all peers, by number
+abbrev pub ShowsPairs : Plan → List (BTreeMap PeerNo Lowest) → List Opinion → Type 0
+ShowsPairs plan rows os = AllZip (ShowsRow os) (numbers plan) rows
 
 abbrev pub round_cells : Plan → List Opinion → List (Option ℤ)
 round_cells plan os = by_number (lowest_in_round plan os) (plan.rounds + 1)
@@ -74,6 +81,8 @@ pub record ShowsGroup (plan : Plan) (os : List Opinion) (group : Chosen) (x : Gr
 
 -- The tables show these opinions.
 pub record Shows (plan : Plan) (chosen : List Chosen) (tables : Tables) (os : List Opinion) : Type 0 where
-  pub pairs : tables.pairs.items ≡ pair_cells plan os
+  pub lasts : 0 < plan.round_ms
+  pub round_ms : tables.round_ms ≡ plan.round_ms
+  pub pairs : ShowsPairs plan tables.pairs.items os
   pub rounds : tables.rounds ≡ round_cells plan os
   pub groups : AllZip (ShowsGroup plan os) chosen tables.groups.items

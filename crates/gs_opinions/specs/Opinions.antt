@@ -66,6 +66,11 @@ abbrev pub trace_opinions : Plan → PeerNo → Entries → List Opinion
 trace_opinions plan p [] = []
 trace_opinions plan p (e ∷ L) = trace_opinions plan p L ++ entry_opinions plan p e L
 
+-- the opinions at entries that come after a trace, the oldest of them first
+abbrev pub later_opinions : Plan → PeerNo → List Entry → Entries → List Opinion
+later_opinions plan p [] L = []
+later_opinions plan p (e ∷ es) L = entry_opinions plan p e L ++ later_opinions plan p es (e ∷ L)
+
 abbrev pub peer_opinions : Plan → PeerNo × Finished → List Opinion
 peer_opinions plan x = trace_opinions plan x.0 x.1.trace
 

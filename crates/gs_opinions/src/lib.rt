@@ -3,13 +3,16 @@
 #![tactic(auto)]
 
 mod cells;
+mod judging;
 mod laws;
 mod members;
 mod opinion;
+mod pairs;
 mod run;
 mod tables;
 mod traces;
 
+pub use judging::Judging;
 pub use laws::the_lowest_is_the_first_that_none_is_below;
 pub use opinion::{Lowest, Opinion};
 pub use run::{Opinions, PairOpinion, RoundOpinions, opinions_of};

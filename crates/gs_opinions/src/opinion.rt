@@ -1,5 +1,5 @@
 //! What a peer scores a neighbour, and the lowest of that.
-ghost use Rattle.std.specs.Prelude.{◌≡◌};
+ghost use Rattle.std.specs.Prelude.{◌≡◌, Some};
 ghost use Rattle.gs_opinions.specs.Noting.{lower_opinion, lower_score};
 ghost use Rattle.gs_opinions.specs.Runs.{lowest_in};
 
@@ -28,7 +28,7 @@ pub struct Lowest {
 
 impl Opinion {
     /// Its score, and its moment.
-    fn lowest(self) -> Lowest
+    pub(crate) fn lowest(self) -> Lowest
         ensures { result ≡ lowest_in self }
     {
         Lowest {
@@ -38,19 +38,14 @@ impl Opinion {
     }
 }
 
-/// The lowest so far, or else the next opinion, if that is lower.
-pub(crate) fn lower_opinion(found: Option<Lowest>, next: Opinion) -> Option<Lowest>
-    ensures { result ≡ lower_opinion next found }
+/// The lowest so far, or the next opinion, if that is lower.
+pub(crate) fn lower_opinion(before: Lowest, next: Opinion) -> Lowest
+    ensures { Some result ≡ lower_opinion next (Some before) }
 {
-    match found {
-        None => Some(next.lowest()),
-        Some(before) => {
-            if next.score < before.score {
-                return Some(next.lowest());
-            }
-            found
-        }
+    if next.score < before.score {
+        return next.lowest();
     }
+    before
 }
 
 /// The lowest score so far, or else that of the next opinion, if that is lower.

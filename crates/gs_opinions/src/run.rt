@@ -1,5 +1,5 @@
 //! The lowest opinions of a run.
-ghost use Rattle.std.specs.Prelude.{◌≡◌, ◌++◌, ◌∷◌, [], IfOk, length, List, map, OnOk};
+ghost use Rattle.std.specs.Prelude.{◌≡◌, ◌++◌, ◌∷◌, [], IfOk, List, map, OnOk};
 ghost use Rattle.std.specs.List.{AllByRecursion, range_with_len};
 ghost use Rattle.gs_base.specs.declared.names.PeerNo.{PeerNo as PeerNoValue};
 ghost use Rattle.gs_plan.specs.Plans.{IsInRange};
@@ -7,13 +7,14 @@ ghost use Rattle.gs_report.specs.declared.finished.Finished.{Finished as Finishe
 ghost use Rattle.gs_router.specs.Following.{AreInOrder};
 ghost use Rattle.gs_reach.specs.declared.chosen.Chosen.{Chosen as ChosenValue};
 ghost use Rattle.gs_opinions.specs.declared.opinion.Opinion.{Opinion as OpinionValue};
-ghost use Rattle.gs_opinions.specs.Listing.{all_rows, groups_at, pair_in, round_at, rows_by};
+ghost use Rattle.gs_opinions.specs.Listing.{all_rows, groups_at, pair_below, round_at, rows_at, rows_by};
 ghost use Rattle.gs_opinions.specs.Noting.{Shows};
 ghost use Rattle.gs_opinions.specs.Opinions.{opinions_by};
 ghost use Rattle.gs_opinions.specs.Runs.{lowest_opinions, opinions_of};
 
-use crate::cells::{Cells, cell_at};
+use crate::cells::cell_at;
 use crate::opinion::Lowest;
+use crate::pairs::PairRow;
 use crate::tables::{GroupRounds, Tables};
 use crate::traces::note_peer;
 use gs_base::{PeerNo, Seq};
@@ -117,7 +118,11 @@ fn note_chosen(
 }
 
 /// The rows of these tables.
-fn rows_of(alloc: Global, plan: &Plan, tables: &Tables<'_>) -> Result<Opinions, AllocError>
+pub(crate) fn rows_of(
+    alloc: Global,
+    plan: &Plan,
+    tables: &Tables<'_>,
+) -> Result<Opinions, AllocError>
     requires range { IsInRange plan.now }
     requires shown { (groups : List ChosenValue) × (os : List OpinionValue) × Shows plan.now groups tables.now os }
     ensures { IfOk result (λ opinions. (groups : List ChosenValue) (os : List OpinionValue)
@@ -129,53 +134,58 @@ fn rows_of(alloc: Global, plan: &Plan, tables: &Tables<'_>) -> Result<Opinions, 
     Ok(Opinions { pairs, rounds })
 }
 
-fn pair_rows(
-    alloc: Global,
-    count: u16,
-    rows: &[Cells<Option<Lowest>>],
-) -> Result<Seq<PairOpinion>, AllocError>
-    requires { length rows.now ≡ count }
+fn pair_rows(alloc: Global, count: u16, rows: &[PairRow]) -> Result<Seq<PairOpinion>, AllocError>
     ensures { IfOk result (λ pairs. pairs ≡ all_rows count rows.now) }
 {
     let mut pairs = Seq::new(alloc);
     for number in 0..count {
-        list_pairs(
-            &mut pairs,
-            count,
-            PeerNo(number),
-            &rows[usize::from(number)],
-        )?;
+        list_row(&mut pairs, count, rows, PeerNo(number))?;
     }
     Ok(pairs)
 }
 
-/// Lists a row for each number that a peer has an opinion of.
+/// Lists what a peer scores each of this many peers, if there is a row for it.
+fn list_row(
+    pairs: &mut Seq<PairOpinion>,
+    count: u16,
+    rows: &[PairRow],
+    by: PeerNo,
+) -> Result<(), AllocError>
+    ensures { OnOk result (pairs.new ≡ pairs.old ++ rows_at rows.now count by.0) }
+{
+    match rows.get(usize::from(by.0)) {
+        Some(row) => list_pairs(pairs, count, by, row),
+        None => Ok(()),
+    }
+}
+
 fn list_pairs(
     pairs: &mut Seq<PairOpinion>,
     count: u16,
     by: PeerNo,
-    row: &Cells<Option<Lowest>>,
+    row: &PairRow,
 ) -> Result<(), AllocError>
     ensures { OnOk result (pairs.new ≡ pairs.old ++ rows_by by row.now count) }
 {
-    for number in 0..count {
-        list_pair(pairs, by, PeerNo(number), row)?;
+    for (of, lowest) in row {
+        let pair = PairOpinion {
+            by,
+            of: *of,
+            lowest: *lowest,
+        };
+        list_pair(pairs, count, pair)?;
     }
     Ok(())
 }
 
-fn list_pair(
-    pairs: &mut Seq<PairOpinion>,
-    by: PeerNo,
-    of: PeerNo,
-    row: &Cells<Option<Lowest>>,
-) -> Result<(), AllocError>
-    ensures { OnOk result (pairs.new ≡ pairs.old ++ pair_in by row.now of) }
+/// Lists a pair, if it is about one of this many peers.
+fn list_pair(pairs: &mut Seq<PairOpinion>, count: u16, pair: PairOpinion) -> Result<(), AllocError>
+    ensures { OnOk result (pairs.new ≡ pairs.old ++ pair_below count pair) }
 {
-    match cell_at(row, usize::from(of.0)) {
-        Some(lowest) => pairs.push(PairOpinion { by, of, lowest }),
-        None => Ok(()),
+    if pair.of.0 < count {
+        return pairs.push(pair);
     }
+    Ok(())
 }
 
 fn round_rows(

@@ -1,16 +1,17 @@
 //! The tables of a run while opinions are noted.
-ghost use Rattle.std.specs.Prelude.{◌≡◌, ◌<◌, ◌++◌, ◌∷◌, [], IfOk, List, map};
+ghost use Rattle.std.specs.Prelude.{◌≡◌, ◌<◌, ◌++◌, ◌∷◌, [], IfOk, List, map, OnOk};
 ghost use Rattle.std.specs.List.{AllZip};
 ghost use Rattle.gs_plan.specs.Plans.{IsInRange};
+ghost use Rattle.gs_plan.specs.declared.plan.Plan.{Plan as PlanValue};
 ghost use Rattle.gs_reach.specs.declared.chosen.Chosen.{Chosen as ChosenValue};
 ghost use Rattle.gs_opinions.specs.declared.opinion.Opinion.{Opinion as OpinionValue};
-ghost use Rattle.gs_opinions.specs.Cells.{changed_at};
-ghost use Rattle.gs_opinions.specs.Noting.{Shows, ShowsGroup, empty_rows, lower_opinion, lowered_between, lowered_group, lowered_in_round};
+ghost use Rattle.gs_opinions.specs.Noting.{Shows, ShowsGroup, lowered_group, lowered_in_round};
 ghost use Rattle.gs_opinions.specs.Runs.{round_of};
 
 use crate::cells::{Cells, filled};
 use crate::members::Members;
-use crate::opinion::{Lowest, Opinion, lower_opinion, lower_score};
+use crate::opinion::{Opinion, lower_score};
+use crate::pairs::{PairRow, empty_rows, lower_between};
 use gs_base::Millis;
 use gs_plan::Plan;
 use gs_reach::Chosen;
@@ -19,8 +20,9 @@ use std::alloc::{AllocError, Global};
 /// The lowest opinions so far.
 #[derive(Drop)]
 pub(crate) struct Tables<'a> {
-    /// The lowest that each peer scores each other, both by number.
-    pub pairs: Vec<Cells<Option<Lowest>>>,
+    round_ms: u64,
+    /// A row for each peer, by number.
+    pub pairs: Vec<PairRow>,
     /// The lowest score of each round.
     pub rounds: Cells<Option<i128>>,
     pub groups: Vec<GroupRounds<'a>>,
@@ -43,10 +45,11 @@ impl<'a> Tables<'a> {
         requires { IsInRange plan.now }
         ensures { IfOk result (λ tables. Shows plan.now groups.now tables []) }
     {
-        let pairs = rows_of_none(alloc, plan.peers.len())?;
+        let pairs = empty_rows(alloc, plan)?;
         let rounds = filled(alloc, plan.rounds as usize + 1, None)?;
         let groups = all_rounds(alloc, plan, groups)?;
         Ok(Tables {
+            round_ms: plan.round_ms,
             pairs,
             rounds,
             groups,
@@ -54,15 +57,14 @@ impl<'a> Tables<'a> {
     }
 
     /// Notes an opinion.
-    pub(crate) fn note(&mut self, plan: &Plan, opinion: Opinion)
-        requires { 0 < plan.now.round_ms }
-        ensures { (groups : List ChosenValue) (os : List OpinionValue)
-            → Shows plan.now groups self.old os → Shows plan.now groups self.new (os ++ opinion ∷ []) }
+    pub(crate) fn note(&mut self, opinion: Opinion) -> Result<(), AllocError>
+        ensures { OnOk result ((plan : PlanValue) (groups : List ChosenValue) (os : List OpinionValue)
+            → Shows plan groups self.old os → Shows plan groups self.new (os ++ opinion ∷ [])) }
     {
-        let round = round_of(plan, opinion.at);
-        lower_between(&mut self.pairs, opinion);
+        let round = round_of(self.round_ms, opinion.at);
         lower_in_round(&mut self.rounds, round, opinion);
         lower_groups(&mut self.groups, round, opinion);
+        lower_between(&mut self.pairs, opinion)
     }
 }
 
@@ -86,30 +88,11 @@ impl<'a> GroupRounds<'a> {
     }
 }
 
-/// The round that a moment lies in.
-fn round_of(plan: &Plan, at: Millis) -> usize
-    requires { 0 < plan.now.round_ms }
-    ensures { result ≡ round_of plan.now at }
+/// The round that a moment lies in, where rounds last this many milliseconds.
+fn round_of(round_ms: u64, at: Millis) -> usize
+    ensures { (plan : PlanValue) → 0 < plan.round_ms → round_ms ≡ plan.round_ms → result ≡ round_of plan at }
 {
-    (at.0 / plan.round_ms) as usize
-}
-
-/// Lowers what one peer scores another, if they have numbers of the table.
-fn lower_between(rows: &mut Vec<Cells<Option<Lowest>>>, opinion: Opinion)
-    ensures { rows.new.items ≡ lowered_between opinion rows.old.items }
-{
-    if let Some(row) = rows.get_mut(usize::from(opinion.by.0)) {
-        lower_of(row, opinion);
-    }
-}
-
-fn lower_of(row: &mut Cells<Option<Lowest>>, opinion: Opinion)
-    ensures { row.new ≡ changed_at (lower_opinion opinion) row.old opinion.of.0 }
-{
-    let number = usize::from(opinion.of.0);
-    if let Some(found) = row.get(number) {
-        row.put(number, lower_opinion(found, opinion));
-    }
+    (at.0 / round_ms.max(1)) as usize
 }
 
 /// Lowers the score of a round, if the round has a number of the table.
@@ -128,17 +111,6 @@ fn lower_groups(groups: &mut [GroupRounds<'_>], round: usize, opinion: Opinion)
     for group in groups.iter_mut() {
         group.note(round, opinion);
     }
-}
-
-/// `count` rows of `count` empty cells.
-fn rows_of_none(alloc: Global, count: usize) -> Result<Vec<Cells<Option<Lowest>>>, AllocError>
-    ensures { IfOk result (λ rows. rows.items ≡ empty_rows count) }
-{
-    let mut rows = Vec::new(alloc);
-    for _ in 0..count {
-        rows.push(filled(alloc, count, None)?)?;
-    }
-    Ok(rows)
 }
 
 /// The rounds of each group, which show no opinion.

@@ -1,33 +1,32 @@
-//! The opinions of a peer, entry by entry of its trace.
-ghost use Rattle.std.specs.Prelude.{◌≡◌, ◌<◌, ◌++◌, [], ◌∷◌, List, OnOk, reverse};
+//! The opinions of a peer, entry by entry.
+ghost use Rattle.std.specs.Prelude.{◌≡◌, ◌≤◌, ◌++◌, [], ◌∷◌, IfOk, OnOk, reverse};
+ghost use Rattle.gs_base.specs.declared.names.PeerNo.{PeerNo as PeerNoValue};
 ghost use Rattle.gs_plan.specs.Plans.{IsInRange};
+ghost use Rattle.gs_plan.specs.declared.plan.Plan.{Plan as PlanValue};
 ghost use Rattle.gs_router.specs.Following.{AreInOrder};
-ghost use Rattle.gs_rules.specs.Tables.{Entries};
-ghost use Rattle.gs_rules.specs.declared.trace.Entry.{Entry as EntryValue};
-ghost use Rattle.gs_reach.specs.declared.chosen.Chosen.{Chosen as ChosenValue};
-ghost use Rattle.gs_seats.specs.Rounds.{neighbours_in};
-ghost use Rattle.gs_opinions.specs.declared.opinion.Opinion.{Opinion as OpinionValue};
-ghost use Rattle.gs_opinions.specs.Noting.{Shows};
-ghost use Rattle.gs_opinions.specs.Opinions.{is_after, is_before, look_at, opinion_of, opinions_after, opinions_at, opinions_before, peer_opinions};
-ghost use Rattle.gs_opinions.specs.Reading.{FollowsPeer, ShowsMore};
+ghost use Rattle.gs_rules.specs.Tables.{Entries, last_moment};
+ghost use Rattle.gs_opinions.specs.Opinions.{entry_opinions, is_after, is_before, later_opinions, look_at, opinion_of, opinions_after, opinions_at, opinions_before, peer_opinions};
+ghost use Rattle.gs_opinions.specs.Reading.{HasSeen, ShowsMore};
 
 use crate::opinion::Opinion;
 use crate::tables::Tables;
 use gs_base::{Millis, Neighbour, PeerNo};
 use gs_plan::Plan;
 use gs_report::Finished;
-use gs_router::Follower;
+use gs_router::Watcher;
 use gs_rules::{Event, StoredEntry};
-use gs_seats::{follower_of, neighbours_of};
+use gs_seats::{neighbours_of, watcher_of};
 use std::alloc::{AllocError, Global};
 
-/// A peer whose trace is read.
+/// A peer whose entries are seen.
 #[derive(Drop)]
-struct Judge<'a> {
-    plan: &'a Plan,
+pub(crate) struct Judge {
     peer: PeerNo,
     /// Ascending.
     neighbours: Vec<Neighbour>,
+    watcher: Watcher,
+    /// The moment of the newest entry that was seen, or 0.
+    last: Millis,
 }
 
 /// When the scores of neighbours are looked at.
@@ -63,6 +62,108 @@ impl Look {
     }
 }
 
+impl Judge {
+    /// A peer of a plan that did nothing yet.
+    pub(crate) fn new(alloc: Global, plan: &Plan, peer: PeerNo) -> Result<Judge, AllocError>
+        requires { IsInRange plan.now }
+        ensures { IfOk result (λ judge. HasSeen plan.now peer judge []) }
+    {
+        let neighbours = neighbours_of(alloc, plan, peer)?;
+        let watcher = watcher_of(alloc, plan, peer)?;
+        Ok(Judge {
+            peer,
+            neighbours,
+            watcher,
+            last: Millis(0),
+        })
+    }
+
+    /// Sees these entries, the oldest first, and notes the opinions at them. No entry is earlier than the one before it.
+    pub(crate) fn see(
+        &mut self,
+        tables: &mut Tables<'_>,
+        entries: &[StoredEntry],
+    ) -> Result<(), AllocError>
+        requires { (plan : PlanValue) × (p : PeerNoValue) × (L : Entries)
+            × HasSeen plan p self.old L × AreInOrder (reverse entries.now ++ L) }
+        ensures { OnOk result ((plan : PlanValue) (p : PeerNoValue) (L : Entries)
+            → HasSeen plan p self.old L
+            → HasSeen plan p self.new (reverse entries.now ++ L)
+            × ShowsMore plan tables.old tables.new (later_opinions plan p entries.now L)) }
+    {
+        for entry in entries {
+            self.see_one(tables, entry)?;
+        }
+        Ok(())
+    }
+
+    /// Sees an entry, and notes the opinions at it.
+    fn see_one(&mut self, tables: &mut Tables<'_>, entry: &StoredEntry) -> Result<(), AllocError>
+        requires { (plan : PlanValue) × (p : PeerNoValue) × (L : Entries)
+            × HasSeen plan p self.old L × (last_moment L ≤ entry.now.at.0) }
+        ensures { OnOk result ((plan : PlanValue) (p : PeerNoValue) (L : Entries)
+            → HasSeen plan p self.old L
+            → last_moment L ≤ entry.now.at.0
+            → HasSeen plan p self.new (entry.now ∷ L)
+            × ShowsMore plan tables.old tables.new (entry_opinions plan p entry.now L)) }
+    {
+        self.note_before(tables, entry)?;
+        let fallen = self.watcher.see(entry)?;
+        drop(fallen);
+        self.last = entry.at();
+        self.note_after(tables, entry)
+    }
+
+    /// Notes the opinions just before an entry, which was not seen yet.
+    fn note_before(&self, tables: &mut Tables<'_>, entry: &StoredEntry) -> Result<(), AllocError>
+        ensures { OnOk result ((plan : PlanValue) (p : PeerNoValue) (L : Entries)
+            → HasSeen plan p self.now L
+            → ShowsMore plan tables.old tables.new (opinions_before plan p entry.now L)) }
+    {
+        if look_at(entry.event()).is_before() {
+            return self.note_moment(tables, entry.at());
+        }
+        Ok(())
+    }
+
+    /// Notes the opinions after an entry, the newest that was seen.
+    fn note_after(&self, tables: &mut Tables<'_>, entry: &StoredEntry) -> Result<(), AllocError>
+        ensures { OnOk result ((plan : PlanValue) (p : PeerNoValue) (L : Entries)
+            → HasSeen plan p self.now (entry.now ∷ L)
+            → ShowsMore plan tables.old tables.new (opinions_after plan p entry.now L)) }
+    {
+        if look_at(entry.event()).is_after() {
+            return self.note_moment(tables, entry.at());
+        }
+        Ok(())
+    }
+
+    /// Notes the peer's opinion of each neighbour at a moment.
+    fn note_moment(&self, tables: &mut Tables<'_>, at: Millis) -> Result<(), AllocError>
+        ensures { OnOk result ((plan : PlanValue) (p : PeerNoValue) (L : Entries)
+            → HasSeen plan p self.now L
+            → ShowsMore plan tables.old tables.new (opinions_at plan p L at)) }
+    {
+        for neighbour in &self.neighbours {
+            tables.note(self.opinion_of(at, neighbour.peer))?;
+        }
+        Ok(())
+    }
+
+    /// The peer's opinion of a neighbour at a moment.
+    fn opinion_of(&self, at: Millis, neighbour: PeerNo) -> Opinion
+        ensures { (plan : PlanValue) (p : PeerNoValue) (L : Entries)
+            → HasSeen plan p self.now L → result ≡ opinion_of plan p L at neighbour }
+    {
+        Opinion {
+            by: self.peer,
+            of: neighbour,
+            score: self.watcher.score(neighbour, at),
+            at,
+        }
+    }
+}
+
 /// Notes all opinions of a peer.
 pub(crate) fn note_peer(
     alloc: Global,
@@ -72,108 +173,12 @@ pub(crate) fn note_peer(
 ) -> Result<(), AllocError>
     requires range { IsInRange plan.now }
     requires order { AreInOrder peer.now.1.trace }
-    ensures { OnOk result ((groups : List ChosenValue) (os : List OpinionValue)
-        → Shows plan.now groups tables.old os
-        → Shows plan.now groups tables.new (os ++ peer_opinions plan.now peer.now)) }
+    ensures { OnOk result (ShowsMore plan.now tables.old tables.new (peer_opinions plan.now peer.now)) }
 {
     let (number, life) = peer;
-    let neighbours = neighbours_of(alloc, plan, *number)?;
-    let judge = Judge {
-        plan,
-        peer: *number,
-        neighbours,
-    };
-    let mut follower = follower_of(alloc, plan, *number, &life.trace)?;
-    note_entries(&judge, tables, &mut follower, life.trace.entries())
-}
-
-/// Notes the opinions at these entries. They are the whole trace of the peer, and its reader has seen none of them.
-fn note_entries(
-    judge: &Judge<'_>,
-    tables: &mut Tables<'_>,
-    follower: &mut Follower<'_>,
-    entries: &[StoredEntry],
-) -> Result<(), AllocError>
-    requires range { 0 < judge.now.plan.now.round_ms }
-    requires neighbours { judge.now.neighbours.items ≡ neighbours_in judge.now.plan.now judge.now.peer }
-    requires follows { FollowsPeer follower.old judge.now [] entries.now }
-    ensures { OnOk result (ShowsMore judge.now tables.old tables.new (reverse entries.now)) }
-{
-    for entry in entries {
-        note_before(judge, tables, follower, entry);
-        follower.advance()?;
-        note_after(judge, tables, follower, entry);
-    }
+    let mut judge = Judge::new(alloc, plan, *number)?;
+    judge.see(tables, life.trace.entries())?;
     Ok(())
-}
-
-/// Notes the opinions just before an entry, which the peer's reader has not seen yet.
-fn note_before(
-    judge: &Judge<'_>,
-    tables: &mut Tables<'_>,
-    follower: &Follower<'_>,
-    entry: &StoredEntry,
-)
-    requires range { 0 < judge.now.plan.now.round_ms }
-    requires neighbours { judge.now.neighbours.items ≡ neighbours_in judge.now.plan.now judge.now.peer }
-    ensures { (L : Entries) (left : List EntryValue) (groups : List ChosenValue) (os : List OpinionValue)
-        → FollowsPeer follower.now judge.now L left
-        → Shows judge.now.plan.now groups tables.old os
-        → Shows judge.now.plan.now groups tables.new
-        (os ++ opinions_before judge.now.plan.now judge.now.peer entry.now L) }
-{
-    if look_at(entry.event()).is_before() {
-        note_moment(judge, tables, follower, entry.at());
-    }
-}
-
-/// Notes the opinions after an entry, the newest that the peer's reader has seen.
-fn note_after(
-    judge: &Judge<'_>,
-    tables: &mut Tables<'_>,
-    follower: &Follower<'_>,
-    entry: &StoredEntry,
-)
-    requires range { 0 < judge.now.plan.now.round_ms }
-    requires neighbours { judge.now.neighbours.items ≡ neighbours_in judge.now.plan.now judge.now.peer }
-    ensures { (L : Entries) (left : List EntryValue) (groups : List ChosenValue) (os : List OpinionValue)
-        → FollowsPeer follower.now judge.now (entry.now ∷ L) left
-        → Shows judge.now.plan.now groups tables.old os
-        → Shows judge.now.plan.now groups tables.new
-        (os ++ opinions_after judge.now.plan.now judge.now.peer entry.now L) }
-{
-    if look_at(entry.event()).is_after() {
-        note_moment(judge, tables, follower, entry.at());
-    }
-}
-
-/// Notes the peer's opinion of each neighbour at a moment.
-fn note_moment(judge: &Judge<'_>, tables: &mut Tables<'_>, follower: &Follower<'_>, at: Millis)
-    requires range { 0 < judge.now.plan.now.round_ms }
-    requires neighbours { judge.now.neighbours.items ≡ neighbours_in judge.now.plan.now judge.now.peer }
-    ensures { (L : Entries) (left : List EntryValue) (groups : List ChosenValue) (os : List OpinionValue)
-        → FollowsPeer follower.now judge.now L left
-        → Shows judge.now.plan.now groups tables.old os
-        → Shows judge.now.plan.now groups tables.new
-        (os ++ opinions_at judge.now.plan.now judge.now.peer L at) }
-{
-    for neighbour in &judge.neighbours {
-        tables.note(judge.plan, opinion_of(judge, follower, at, neighbour.peer));
-    }
-}
-
-/// The peer's opinion of a neighbour at a moment.
-fn opinion_of(judge: &Judge<'_>, follower: &Follower<'_>, at: Millis, neighbour: PeerNo) -> Opinion
-    ensures { (L : Entries) (left : List EntryValue)
-        → FollowsPeer follower.now judge.now L left
-        → result ≡ opinion_of judge.now.plan.now judge.now.peer L at neighbour }
-{
-    Opinion {
-        by: judge.peer,
-        of: neighbour,
-        score: follower.score(neighbour, at),
-        at,
-    }
 }
 
 /// When scores are looked at. Each event is named, so that somebody decides about a new one.

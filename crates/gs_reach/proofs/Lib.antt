@@ -3,3 +3,4 @@ pub mod FirstOnes
 pub mod Counted
 pub mod Publishers
 pub mod Filings
+pub mod Listings

@@ -4,7 +4,7 @@ use Rattle.std.specs.List.{flat_map}
 use Rattle.gs_base.specs.declared.names.PeerNo.{PeerNo}
 use Rattle.gs_base.specs.declared.names.Topic.{Topic}
 use Rattle.gs_base.specs.declared.names.Millis.{Millis}
-use Rattle.gs_rules.specs.Tables.{lost}
+use Rattle.gs_rules.specs.Tables.{Entries, lost}
 use Rattle.gs_rules.specs.declared.event.Event.{Event}
 use Rattle.gs_rules.specs.declared.event.Event.TheVariants.{Heard, Late, BeatBegin, Decay, RoundEnd, Shut, Part, Step, Own, Lost}
 use Rattle.gs_plan.specs.declared.plan.Act.{Act}
@@ -71,24 +71,30 @@ loss_of p at (Some q) = record { peer = p; neighbour = q; at = at } ∷ []
 
 -- ---- what a peer's trace says, the oldest entry first
 
-abbrev pub published_at : PeerNo × Finished → List Appearance
-published_at x = flat_map (λ (e : Entry). published_by x.0 e.at e.event) (reverse x.1.trace)
+abbrev pub listed_by : PeerNo → Entries → Listed
+listed_by p trace = record {
+  published = flat_map (λ (e : Entry). published_by p e.at e.event) (reverse trace);
+  delivered = flat_map (λ (e : Entry). delivered_by p e.at e.effects.delivered) (reverse trace);
+  changes = flat_map (λ (e : Entry). changed_by p e.at e.event) (reverse trace);
+  losses = flat_map (λ (e : Entry). loss_of p e.at (lost e.event)) (reverse trace);
+}
 
-abbrev pub delivered_at : PeerNo × Finished → List Appearance
-delivered_at x = flat_map (λ (e : Entry). delivered_by x.0 e.at e.effects.delivered) (reverse x.1.trace)
+-- ---- what several traces say, peer by peer
 
-abbrev pub changed_at : PeerNo × Finished → List Change
-changed_at x = flat_map (λ (e : Entry). changed_by x.0 e.at e.event) (reverse x.1.trace)
-
-abbrev pub lost_at : PeerNo × Finished → List Loss
-lost_at x = flat_map (λ (e : Entry). loss_of x.0 e.at (lost e.event)) (reverse x.1.trace)
-
--- ---- what all traces say, peer by peer
-
+-- of peers that ended
 abbrev pub listed : List (PeerNo × Finished) → Listed
 listed peers = record {
-  published = flat_map published_at peers;
-  delivered = flat_map delivered_at peers;
-  changes = flat_map changed_at peers;
-  losses = flat_map lost_at peers;
+  published = flat_map (λ (x : PeerNo × Finished). (listed_by x.0 x.1.trace).published) peers;
+  delivered = flat_map (λ (x : PeerNo × Finished). (listed_by x.0 x.1.trace).delivered) peers;
+  changes = flat_map (λ (x : PeerNo × Finished). (listed_by x.0 x.1.trace).changes) peers;
+  losses = flat_map (λ (x : PeerNo × Finished). (listed_by x.0 x.1.trace).losses) peers;
+}
+
+-- of peers whose traces were listed one by one
+abbrev pub joined : List (PeerNo × Listed) → Listed
+joined parts = record {
+  published = flat_map (λ (x : PeerNo × Listed). x.1.published) parts;
+  delivered = flat_map (λ (x : PeerNo × Listed). x.1.delivered) parts;
+  changes = flat_map (λ (x : PeerNo × Listed). x.1.changes) parts;
+  losses = flat_map (λ (x : PeerNo × Listed). x.1.losses) parts;
 }

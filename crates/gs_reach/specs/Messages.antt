@@ -163,8 +163,11 @@ message_reach plan l peers m = record {
 abbrev pub numbers_of : List (PeerNo × Finished) → List PeerNo
 numbers_of peers = map (λ (x : PeerNo × Finished). x.0) peers
 
--- The messages of a run, each as its first publication. They are by moment, then by the order of the peers, then by the
--- order of their traces.
+-- The messages that traces of these peers tell, each as its first publication. They are by moment, then by the order of the
+-- peers, then by the order of their traces.
+abbrev pub messages_by : Plan → Listed → List PeerNo → List MessageReach
+messages_by plan l peers = map (message_reach plan l peers) (in_order (firsts l.published))
+
+-- the messages of a run
 abbrev pub messages : Plan → Report → List MessageReach
-messages plan report =
-    map (message_reach plan (listed report.peers.items) (numbers_of report.peers.items)) (in_order (firsts (listed report.peers.items).published))
+messages plan report = messages_by plan (listed report.peers.items) (numbers_of report.peers.items)

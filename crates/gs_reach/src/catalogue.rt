@@ -3,15 +3,13 @@ ghost use Rattle.std.specs.Prelude.{◌≡◌, [], ◌∷◌, ◌++◌, IfOk, Li
 ghost use Rattle.gs_reach.specs.declared.listed.Appearance.{Appearance as AppearanceValue};
 ghost use Rattle.gs_reach.specs.declared.listed.Change.{Change as ChangeValue};
 ghost use Rattle.gs_reach.specs.Filed.{FilesDelivered, FilesPublished, FilesTurns, said_of};
-ghost use Rattle.gs_reach.specs.Listed.{listed};
 ghost use Rattle.gs_reach.specs.Messages.{appearances, arrival_of, arrivals, turn_of, turns};
 
 use crate::filing::{file, found};
 use crate::keys::{Payload, TopicPayload};
-use crate::listed::{Appearance, Arrival, Change, Listed, Turn, list_all};
+use crate::listed::{Appearance, Arrival, Change, Listed, Turn};
 use bytes::Bytes;
-use gs_base::{PeerNo, Topic, clone_of};
-use gs_report::Finished;
+use gs_base::{Topic, clone_of};
 use indexmap::IndexMap;
 use std::alloc::{AllocError, Global};
 use std::marker::Model;
@@ -39,11 +37,10 @@ impl Model for Catalogue {
 }
 
 impl Catalogue {
-    /// What all peers' traces say.
-    pub(crate) fn of(alloc: Global, peers: &[(PeerNo, Finished)]) -> Result<Catalogue, AllocError>
-        ensures { IfOk result (λ all. all ≡ listed peers.now) }
+    /// Files what traces say.
+    pub(crate) fn of(alloc: Global, listed: Listed) -> Result<Catalogue, AllocError>
+        ensures { IfOk result (λ all. all ≡ listed) }
     {
-        let listed = list_all(alloc, peers)?;
         let published = file_published(alloc, listed.published.as_slice())?;
         let delivered = file_delivered(alloc, listed.delivered.as_slice())?;
         let turns = file_turns(alloc, listed.changes.as_slice())?;

@@ -10,6 +10,7 @@ mod keys;
 mod laws;
 mod linked;
 mod listed;
+mod listing;
 mod messages;
 mod pairs;
 mod spread;
@@ -24,6 +25,7 @@ pub use laws::{
     publishers_are_no_subscribers, reached_and_missed_are_all,
 };
 pub use listed::{Appearance, Arrival, Change, Listed, Loss};
+pub use listing::Listing;
 pub use messages::{MessageReach, messages_of};
 pub use pairs::{Pair, missed, reached, reached_within};
 pub use spread::{Spread, spread_of};

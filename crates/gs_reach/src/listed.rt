@@ -2,7 +2,7 @@
 ghost use Rattle.std.specs.Prelude.{◌≡◌, [], ◌∷◌, ◌++◌, IfOk, OnOk};
 ghost use Rattle.std.specs.List.{flat_map};
 ghost use Rattle.gs_rules.specs.Tables.{lost};
-ghost use Rattle.gs_reach.specs.Listed.{act_changed, act_published, changed_at, changed_by, delivered_at, delivered_by, listed, loss_of, lost_at, published_at, published_by};
+ghost use Rattle.gs_reach.specs.Listed.{act_changed, act_published, changed_by, delivered_by, joined, listed, loss_of, published_by};
 
 use bytes::Bytes;
 use gs_base::{ExactClone, Millis, PeerNo, Seq, Topic, clone_of};
@@ -82,110 +82,107 @@ pub struct Listed {
     pub losses: Seq<Loss>,
 }
 
+impl Listed {
+    /// What traces say that have no entries. It takes no memory.
+    pub(crate) fn nothing(alloc: Global) -> Listed
+        ensures { result ≡ record { published = []; delivered = []; changes = []; losses = [] } }
+    {
+        Listed {
+            published: Seq::new(alloc),
+            delivered: Seq::new(alloc),
+            changes: Seq::new(alloc),
+            losses: Seq::new(alloc),
+        }
+    }
+
+    /// Notes all that entries of a peer say, the oldest first.
+    pub(crate) fn note_all(
+        &mut self,
+        peer: PeerNo,
+        entries: &[StoredEntry],
+    ) -> Result<(), AllocError>
+        ensures published { OnOk result (self.new.published
+            ≡ self.old.published ++ flat_map (λ e. published_by peer e.at e.event) entries.now) }
+        ensures delivered { OnOk result (self.new.delivered
+            ≡ self.old.delivered ++ flat_map (λ e. delivered_by peer e.at e.effects.delivered) entries.now) }
+        ensures changes { OnOk result (self.new.changes
+            ≡ self.old.changes ++ flat_map (λ e. changed_by peer e.at e.event) entries.now) }
+        ensures losses { OnOk result (self.new.losses
+            ≡ self.old.losses ++ flat_map (λ e. loss_of peer e.at (lost e.event)) entries.now) }
+    {
+        for entry in entries {
+            self.note(peer, entry)?;
+        }
+        Ok(())
+    }
+
+    /// Notes all that an entry of a peer says.
+    fn note(&mut self, peer: PeerNo, entry: &StoredEntry) -> Result<(), AllocError>
+        ensures published { OnOk result (self.new.published
+            ≡ self.old.published ++ published_by peer entry.now.at entry.now.event) }
+        ensures delivered { OnOk result (self.new.delivered
+            ≡ self.old.delivered ++ delivered_by peer entry.now.at entry.now.effects.delivered) }
+        ensures changes { OnOk result (self.new.changes
+            ≡ self.old.changes ++ changed_by peer entry.now.at entry.now.event) }
+        ensures losses { OnOk result (self.new.losses
+            ≡ self.old.losses ++ loss_of peer entry.now.at (lost entry.now.event)) }
+    {
+        let at = entry.at();
+        list_publication(&mut self.published, peer, at, entry.event())?;
+        list_delivered(&mut self.delivered, peer, at, entry.delivered())?;
+        list_changed(&mut self.changes, peer, at, entry.event())?;
+        list_loss(&mut self.losses, peer, at, entry.event().lost())?;
+        Ok(())
+    }
+
+    /// Adds what other traces say. It moves each element.
+    fn append(&mut self, other: Listed) -> Result<(), AllocError>
+        ensures published { OnOk result (self.new.published ≡ self.old.published ++ other.published) }
+        ensures delivered { OnOk result (self.new.delivered ≡ self.old.delivered ++ other.delivered) }
+        ensures changes { OnOk result (self.new.changes ≡ self.old.changes ++ other.changes) }
+        ensures losses { OnOk result (self.new.losses ≡ self.old.losses ++ other.losses) }
+    {
+        let Listed {
+            published,
+            delivered,
+            changes,
+            losses,
+        } = other;
+        append(&mut self.published, published)?;
+        append(&mut self.delivered, delivered)?;
+        append(&mut self.changes, changes)?;
+        append(&mut self.losses, losses)?;
+        Ok(())
+    }
+}
+
 /// What all peers' traces say.
 pub(crate) fn list_all(alloc: Global, peers: &[(PeerNo, Finished)]) -> Result<Listed, AllocError>
     ensures { IfOk result (λ all. all ≡ listed peers.now) }
 {
-    let published = published(alloc, peers)?;
-    let delivered = delivered(alloc, peers)?;
-    let changes = changes(alloc, peers)?;
-    let losses = losses(alloc, peers)?;
-    Ok(Listed {
-        published,
-        delivered,
-        changes,
-        losses,
-    })
-}
-
-fn published(alloc: Global, peers: &[(PeerNo, Finished)]) -> Result<Seq<Appearance>, AllocError>
-    ensures { IfOk result (λ list. list ≡ flat_map published_at peers.now) }
-{
-    let mut list = Seq::new(alloc);
+    let mut all = Listed::nothing(alloc);
     for peer in peers {
-        list_publications(&mut list, peer.0, peer.1.trace.entries())?;
+        all.note_all(peer.0, peer.1.trace.entries())?;
     }
-    Ok(list)
+    Ok(all)
 }
 
-fn delivered(alloc: Global, peers: &[(PeerNo, Finished)]) -> Result<Seq<Appearance>, AllocError>
-    ensures { IfOk result (λ list. list ≡ flat_map delivered_at peers.now) }
+/// What several say, one after the other.
+pub(crate) fn joined(alloc: Global, parts: Vec<(PeerNo, Listed)>) -> Result<Listed, AllocError>
+    ensures { IfOk result (λ all. all ≡ joined parts.items) }
 {
-    let mut list = Seq::new(alloc);
-    for peer in peers {
-        list_deliveries(&mut list, peer.0, peer.1.trace.entries())?;
+    let mut all = Listed::nothing(alloc);
+    for part in parts {
+        all.append(part.1)?;
     }
-    Ok(list)
+    Ok(all)
 }
 
-fn changes(alloc: Global, peers: &[(PeerNo, Finished)]) -> Result<Seq<Change>, AllocError>
-    ensures { IfOk result (λ list. list ≡ flat_map changed_at peers.now) }
+fn append<T: Drop>(list: &mut Seq<T>, more: Seq<T>) -> Result<(), AllocError>
+    ensures { OnOk result (list.new ≡ list.old ++ more) }
 {
-    let mut list = Seq::new(alloc);
-    for peer in peers {
-        list_changes(&mut list, peer.0, peer.1.trace.entries())?;
-    }
-    Ok(list)
-}
-
-fn losses(alloc: Global, peers: &[(PeerNo, Finished)]) -> Result<Seq<Loss>, AllocError>
-    ensures { IfOk result (λ list. list ≡ flat_map lost_at peers.now) }
-{
-    let mut list = Seq::new(alloc);
-    for peer in peers {
-        list_losses(&mut list, peer.0, peer.1.trace.entries())?;
-    }
-    Ok(list)
-}
-
-fn list_publications(
-    list: &mut Seq<Appearance>,
-    peer: PeerNo,
-    entries: &[StoredEntry],
-) -> Result<(), AllocError>
-    ensures { OnOk result (list.new ≡ list.old ++ flat_map (λ e. published_by peer e.at e.event) entries.now) }
-{
-    for entry in entries {
-        list_publication(list, peer, entry.at(), entry.event())?;
-    }
-    Ok(())
-}
-
-fn list_deliveries(
-    list: &mut Seq<Appearance>,
-    peer: PeerNo,
-    entries: &[StoredEntry],
-) -> Result<(), AllocError>
-    ensures { OnOk result (list.new ≡ list.old ++ flat_map (λ e. delivered_by peer e.at e.effects.delivered) entries.now) }
-{
-    for entry in entries {
-        list_delivered(list, peer, entry.at(), entry.delivered())?;
-    }
-    Ok(())
-}
-
-fn list_changes(
-    list: &mut Seq<Change>,
-    peer: PeerNo,
-    entries: &[StoredEntry],
-) -> Result<(), AllocError>
-    ensures { OnOk result (list.new ≡ list.old ++ flat_map (λ e. changed_by peer e.at e.event) entries.now) }
-{
-    for entry in entries {
-        list_changed(list, peer, entry.at(), entry.event())?;
-    }
-    Ok(())
-}
-
-fn list_losses(
-    list: &mut Seq<Loss>,
-    peer: PeerNo,
-    entries: &[StoredEntry],
-) -> Result<(), AllocError>
-    ensures { OnOk result (list.new ≡ list.old ++ flat_map (λ e. loss_of peer e.at (lost e.event)) entries.now) }
-{
-    for entry in entries {
-        list_loss(list, peer, entry.at(), entry.event().lost())?;
+    for one in more.into_vec() {
+        list.push(one)?;
     }
     Ok(())
 }

@@ -1,19 +1,19 @@
 //! How far each message of a run got.
 ghost use Rattle.std.specs.Prelude.{◌≡◌, [], ◌∷◌, ◌++◌, IfOk, OnOk, map};
-ghost use Rattle.gs_reach.specs.Messages.{is_subscriber, message_reach, messages, numbers_of, pairs_of, publishers};
+ghost use Rattle.gs_reach.specs.Messages.{is_subscriber, message_reach, messages, messages_by, pairs_of, publishers};
 ghost use Rattle.gs_reach.specs.Tables.{AreLinks, AreTablesOf};
 
 use crate::catalogue::Catalogue;
 use crate::firsts::firsts_in_order;
 use crate::linked::{Linked, is_linked_at, links_of};
-use crate::listed::Appearance;
+use crate::listed::{Appearance, Listed, list_all};
 use crate::pairs::{Pair, one_if};
 use crate::table::Table;
 use crate::tables::{Tables, tables_of};
 use crate::verdict::verdict_on;
 use gs_base::{PeerNo, Seq, Verdict, clone_of};
 use gs_plan::Plan;
-use gs_report::{Finished, Report};
+use gs_report::Report;
 use std::alloc::{AllocError, Global};
 
 /// How far a message got. A message is a payload that was published on a topic at a moment.
@@ -35,11 +35,11 @@ pub struct MessageReach {
     pub pairs: Seq<Pair>,
 }
 
-/// A run of a plan, and what its traces say.
+/// A run of a plan, its peers, and what their traces say.
 #[derive(Drop)]
 struct Run<'a> {
     plan: &'a Plan,
-    peers: &'a [(PeerNo, Finished)],
+    numbers: &'a [PeerNo],
     all: Catalogue,
     links: Table<Linked>,
 }
@@ -56,12 +56,39 @@ pub fn messages_of(
 ) -> Result<Seq<MessageReach>, AllocError>
     ensures { IfOk result (λ list. list ≡ messages plan.now report.now) }
 {
-    let all = Catalogue::of(alloc, &report.peers)?;
+    let numbers = numbers_of(alloc, report.peers.as_slice())?;
+    let listed = list_all(alloc, report.peers.as_slice())?;
+    let messages = messages_by(alloc, plan, numbers.as_slice(), listed);
+    drop(numbers);
+    messages
+}
+
+/// The numbers of peers, in their order.
+pub(crate) fn numbers_of<T>(alloc: Global, peers: &[(PeerNo, T)]) -> Result<Vec<PeerNo>, AllocError>
+    ensures { IfOk result (λ numbers. numbers.items ≡ map (λ x. x.0) peers.now) }
+{
+    let mut numbers = Vec::with_capacity(alloc, peers.len())?;
+    for peer in peers {
+        numbers.push(peer.0)?;
+    }
+    Ok(numbers)
+}
+
+/// How far each message got that the traces of these peers tell.
+pub(crate) fn messages_by(
+    alloc: Global,
+    plan: &Plan,
+    numbers: &[PeerNo],
+    listed: Listed,
+) -> Result<Seq<MessageReach>, AllocError>
+    ensures { IfOk result (λ list. list ≡ messages_by plan.now listed numbers.now) }
+{
+    let all = Catalogue::of(alloc, listed)?;
     let links = links_of(alloc, plan.dials.as_slice(), all.listed().losses.as_slice())?;
     let firsts = firsts_in_order(alloc, all.listed().published.as_slice())?;
     let run = Run {
         plan,
-        peers: report.peers.as_slice(),
+        numbers,
         all,
         links,
     };
@@ -78,7 +105,7 @@ fn reach_of_each(
 ) -> Result<Seq<MessageReach>, AllocError>
     requires { AreLinks run.now.plan.now.dials run.now.all.losses run.now.links }
     ensures { IfOk result (λ list. list
-        ≡ map (message_reach run.now.plan.now run.now.all (numbers_of run.now.peers.now)) publications.now) }
+        ≡ map (message_reach run.now.plan.now run.now.all run.now.numbers.now) publications.now) }
 {
     let mut list = Seq::new(alloc);
     for publication in publications {
@@ -91,7 +118,7 @@ fn reach_of_each(
 fn reach_of(alloc: Global, run: &Run<'_>, message: &Appearance) -> Result<MessageReach, AllocError>
     requires { AreLinks run.now.plan.now.dials run.now.all.losses run.now.links }
     ensures { IfOk result (λ reach. reach
-        ≡ message_reach run.now.plan.now run.now.all (numbers_of run.now.peers.now) message.now) }
+        ≡ message_reach run.now.plan.now run.now.all run.now.numbers.now message.now) }
 {
     let tables = tables_of(alloc, run.plan, &run.all, message)?;
     let publishers = publishers(run, message, &tables);
@@ -109,11 +136,11 @@ fn reach_of(alloc: Global, run: &Run<'_>, message: &Appearance) -> Result<Messag
 /// How many peers publish a message.
 fn publishers(run: &Run<'_>, message: &Appearance, tables: &Tables) -> u64
     requires { AreTablesOf run.now.plan.now run.now.all message.now tables.now }
-    ensures { result ≡ publishers run.now.all.published message.now (numbers_of run.now.peers.now) }
+    ensures { result ≡ publishers run.now.all.published message.now run.now.numbers.now }
 {
     let mut count: u64 = 0;
-    for peer in run.peers {
-        count += one_if(tables.publishers.get(peer.0));
+    for peer in run.numbers {
+        count += one_if(tables.publishers.get(*peer));
     }
     count
 }
@@ -128,11 +155,11 @@ fn pairs_of(
     requires links { AreLinks run.now.plan.now.dials run.now.all.losses run.now.links }
     requires tables { AreTablesOf run.now.plan.now run.now.all message.now tables.now }
     ensures { IfOk result (λ pairs. pairs
-        ≡ pairs_of run.now.plan.now run.now.all message.now (numbers_of run.now.peers.now)) }
+        ≡ pairs_of run.now.plan.now run.now.all message.now run.now.numbers.now) }
 {
     let mut pairs = Seq::new(alloc);
-    for peer in run.peers {
-        push_pair(&mut pairs, run, message, tables, peer.0)?;
+    for peer in run.numbers {
+        push_pair(&mut pairs, run, message, tables, *peer)?;
     }
     Ok(pairs)
 }

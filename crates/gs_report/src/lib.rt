@@ -2,9 +2,11 @@
 #![tactic(auto)]
 
 mod finished;
+mod remains;
 mod report;
 mod text;
 
 pub use finished::Finished;
+pub use remains::Remains;
 pub use report::Report;
 pub use text::{name_of, push_millionths, report_text, word_of};

@@ -2,6 +2,7 @@ pub mod PlaceLists
 pub mod ByNumber
 pub mod Each
 pub mod EachPeer
+pub mod Ends
 pub mod FewDials
 pub mod Joined
 pub mod NeighbourLists

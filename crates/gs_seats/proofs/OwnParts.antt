@@ -9,7 +9,7 @@ use Rattle.gs_plan.specs.declared.plan.Dial.{Dial}
 use Rattle.gs_plan.specs.declared.plan.Plan.{Plan}
 use Rattle.gs_plan.specs.Plans.{are_joined, joins}
 use Rattle.gs_seats.specs.Own.{is_agreement_of, is_dial_of, is_score_of, neighbour_by}
-use Rattle.gs_seats.specs.Rounds.{address_of, is_about, is_agreed, is_dial, neighbour_in}
+use Rattle.gs_seats.specs.Rounds.{address_of, is_about, is_agreed, is_dial, neighbour_in, neighbours, numbers}
 
 module _ {A : Type 0} (Q P : A → Bool) (only : (x : A) → P x ≡ true → Q x ≡ true) where
   left_out : (x : A) → Q x ≡ false → P x ≡ false
@@ -53,6 +53,9 @@ dialled_are_own p q dial dialled = ap (λ (b : Bool). b || same_peer dial.to p) 
 
 pub are_joined_by_own : (dials : List Dial) (p q : PeerNo) → are_joined (filter (is_dial_of p) dials) p q ≡ are_joined dials p q
 are_joined_by_own dials p q = any_among (is_dial_of p) (joins p q) (joined_are_own p q) dials
+
+pub neighbours_by_own : (plan : Plan) (p : PeerNo) → filter (are_joined (filter (is_dial_of p) plan.dials) p) (numbers plan) ≡ neighbours plan p
+neighbours_by_own plan p = λ i. filter (λ (q : PeerNo). are_joined_by_own plan.dials p q i) (numbers plan)
 
 pub neighbour_by_own : (plan : Plan) (p q : PeerNo)
     → neighbour_by (filter (is_dial_of p) plan.dials) (filter (is_score_of p) plan.apps) (filter (is_agreement_of p) plan.explicit) (address_of plan q) p q ≡ neighbour_in plan p q

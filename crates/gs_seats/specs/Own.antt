@@ -1,12 +1,20 @@
 -- What in a plan concerns one peer.
-use Rattle.std.specs.Prelude.{Bool, ◌||◌, ℕ, ℤ, pos, List, find, option_map, unwrap_or}
+use Rattle.std.specs.Prelude.{◌≡◌, ◌<◌, Bool, ◌||◌, ℕ, ℤ, pos, List, Vec, filter, find, length, option_map, unwrap_or}
 use Rattle.std.specs.List.{list_any}
+use Rattle.std.specs.BTreeMap.{get}
+use Rattle.std.specs.BTreeSet.{contains}
+use Rattle.std.specs.Ordering.{nat_cmp}
+use Rattle.std.specs.declared.alloc.Global.{Global}
 use Rattle.gs_base.specs.declared.neighbour.Neighbour.{Neighbour}
 use Rattle.gs_base.specs.Names.{same_peer}
 use Rattle.gs_base.specs.declared.names.PeerNo.{PeerNo}
 use Rattle.gs_plan.specs.declared.plan.App.{App}
 use Rattle.gs_plan.specs.declared.plan.Dial.{Dial}
 use Rattle.gs_plan.specs.declared.plan.Explicit.{Explicit}
+use Rattle.gs_plan.specs.declared.plan.Plan.{Plan}
+use Rattle.gs_seats.specs.declared.known.Known.{Known}
+use Rattle.gs_seats.specs.declared.neighbourhoods.Neighbourhoods.{Neighbourhoods}
+use Rattle.gs_seats.specs.ListsByPeer.{list_at}
 use Rattle.gs_seats.specs.Rounds.{is_about, is_agreed, is_dial}
 
 -- the peer dials, or is dialled
@@ -34,3 +42,26 @@ neighbour_by dials apps explicit address p q = record {
   app = score_in apps p q;
   explicit = list_any (is_agreed p q) explicit;
 }
+
+-- q as a neighbour, by what is known of it
+abbrev pub known_neighbour : Known → (address : List ℕ) → PeerNo → Neighbour
+known_neighbour known address q = record {
+  peer = q;
+  outbound = contains nat_cmp known.dialled q.0;
+  address = address;
+  app = unwrap_or (get nat_cmp known.scores q.0) (pos 0);
+  explicit = contains nat_cmp known.agreed q.0;
+}
+
+-- ---- what concerns each peer
+
+-- Each peer below a count has a list of the parts that concern it, in their order.
+pub record AreByPeer {A : Type 0} (is_of : PeerNo → A → Bool) (count : ℕ) (parts : List A) (lists : List (Vec A Global)) : Type 0 where
+  pub many : length lists ≡ count
+  pub own : (p : PeerNo) → p.0 < count → list_at lists p.0 ≡ filter (is_of p) parts
+
+-- For each peer of the plan these are its dials, the scores that its application gives, and its agreements.
+pub record AreNeighbourhoods (plan : Plan) (all : Neighbourhoods) : Type 0 where
+  pub dials : AreByPeer is_dial_of (length plan.peers) plan.dials all.dials.items
+  pub apps : AreByPeer is_score_of (length plan.peers) plan.apps all.apps.items
+  pub explicit : AreByPeer is_agreement_of (length plan.peers) plan.explicit all.explicit.items

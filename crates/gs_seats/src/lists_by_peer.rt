@@ -37,6 +37,35 @@ pub fn put_last<T: Drop>(lists: &mut Vec<Vec<T>>, peer: PeerNo, value: T) -> Res
     Ok(())
 }
 
+/// Appends a value to a peer's list, if the peer has one.
+///
+/// # Errors
+/// `AllocError` when out of memory. The lists are as they were, and the value is dropped.
+pub fn put_if_there<T: Drop>(
+    lists: &mut Vec<Vec<T>>,
+    peer: PeerNo,
+    value: T,
+) -> Result<(), AllocError>
+    ensures count { length lists.new.items ≡ length lists.old.items }
+    ensures put { OnOk result (peer.0 < length lists.old.items
+        → list_at lists.new.items peer.0 ≡ list_at lists.old.items peer.0 ++ value ∷ []) }
+    ensures others { (n : ℕ) → n ≢ peer.0 → list_at lists.new.items n ≡ list_at lists.old.items n }
+{
+    if usize::from(peer.0) >= lists.len() {
+        return Ok(());
+    }
+    put_last(lists, peer, value)?;
+    Ok(())
+}
+
+/// Returns a peer's list.
+pub fn list_of<T>(lists: &[Vec<T>], peer: PeerNo) -> &[T]
+    requires { peer.0 < length lists.now }
+    ensures { result.now ≡ list_at lists.now peer.0 }
+{
+    lists[usize::from(peer.0)].as_slice()
+}
+
 /// Takes a peer's list, and leaves an empty one in its place.
 pub fn take_list<T: Drop>(alloc: Global, lists: &mut Vec<Vec<T>>, peer: PeerNo) -> Vec<T>
     requires { peer.0 < length lists.old.items }

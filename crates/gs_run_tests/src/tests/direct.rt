@@ -1,10 +1,11 @@
 //! Reports of runs on one thread, compared with reports that were worked out by hand.
 use gs_base::PeerNo;
-use gs_direct::{Observer, run_direct, run_observed};
+use gs_direct::{run_direct, run_observed};
 use gs_plan::Limits;
 use gs_report::report_text;
 use gs_rules::StoredEntry;
 use gs_scenario::read_plan;
+use gs_seats::Observer;
 use std::alloc::{AllocError, AllocGlobal};
 use std::test::*;
 
@@ -178,6 +179,10 @@ fn a_peer_that_hangs_up_hears_no_more(rt: HostRuntime) -> Result<(), Fail> {
 struct Deliveries(Vec<(u16, u64, u8)>);
 
 impl Observer for Deliveries {
+    ghost Question = { Unit {0} };
+
+    ghost question = { λ deliveries. tt };
+
     ghost saw = { λ deliveries traces. Unit {0} };
 
     fn see(&mut self, peer: PeerNo, entries: &[StoredEntry]) -> Result<(), AllocError> {

@@ -5,7 +5,7 @@ ghost use Rattle.gs_plan.specs.declared.limits.TheConstants.{MOST_PEERS as most}
 use super::*;
 use gs_base::{Seq, Text};
 use gs_params::Params;
-use gs_plan::PlannedPeer;
+use gs_plan::{App, Dial, Explicit, PlannedPeer};
 
 fn peer(alloc: Global, name: &str, address: &str) -> Result<PlannedPeer, AllocError> {
     Ok(PlannedPeer {

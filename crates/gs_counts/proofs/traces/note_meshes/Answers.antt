@@ -3,7 +3,7 @@ use Rattle.std.proofs.lemmas.List.{take_all}
 use Rattle.gs_base.specs.declared.names.Topic.{Topic}
 use Rattle.gs_counts.specs.Meshes.{members_in}
 use Rattle.gs_counts.specs.Runs.{sizes_of}
-use Rattle.gs_counts.specs.Standing.{MeshSize, Shows}
+use Rattle.gs_counts.specs.Standing.{Shows}
 use Rattle.gs_counts.proofs.Entries.{size_more}
 use Rattle.gs_counts.proofs.traces.note_meshes.Goals as goal
 

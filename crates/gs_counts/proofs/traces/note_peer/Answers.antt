@@ -1,4 +1,4 @@
-use Rattle.std.proofs.Common.{◌++◌, List, ap, ap₂, append_assoc, subst, ◌∙◌}
+use Rattle.std.proofs.Common.{◌++◌, List, ap, append_assoc, subst, ◌∙◌}
 use Rattle.std.specs.List.{flat_map}
 use Rattle.std.proofs.lemmas.Result.{on_ok_weaker}
 use Rattle.gs_rules.specs.declared.refusal.RefusedLine.{RefusedLine}
@@ -16,10 +16,10 @@ returns c =
     let refused = c.args.peer.now.1.refused in
     let told = trace_happenings plan p trace in
     on_ok_weaker
-    c.note_all.result
+    c.note_refused.result
     (λ noted hs sizes was.
-    subst (λ (xs : List Happening). Shows plan c.note_all.new.self xs (sizes ++ trace_sizes trace))
-    (ap (λ (xs : List Happening). (hs ++ told) ++ xs) (c.deref.ensures.value ∙ c.in_ok-note_refusals.ensures ∙ ap₂ (λ (xs : List Happening) (lines : List RefusedLine). xs ++ flat_map (refusal_happenings p) lines) c.clear.ensures.items c.as_slice.ensures)
+    subst (λ (xs : List Happening). Shows plan c.note_refused.new.tables xs (sizes ++ trace_sizes trace))
+    (ap (λ (lines : List RefusedLine). (hs ++ told) ++ flat_map (refusal_happenings p) lines) c.as_slice.ensures
     ∙ append_assoc hs told (flat_map (refusal_happenings p) refused))
     (noted plan (hs ++ told) (sizes ++ trace_sizes trace) (c.in_ok-note_trace.ensures hs sizes was)))
-    c.note_all.ensures
+    c.note_refused.ensures

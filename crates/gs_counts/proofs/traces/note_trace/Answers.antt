@@ -1,19 +1,17 @@
-use Rattle.std.proofs.Common.{[], reverse}
+use Rattle.std.proofs.Common.{[]}
 use Rattle.std.proofs.lemmas.Result.{on_ok_weaker}
-use Rattle.gs_seats.specs.Rounds.{peer_in}
-use Rattle.gs_counts.proofs.Reading.{begun}
+use Rattle.gs_counts.proofs.Reading.{order_whole, shown_whole}
 use Rattle.gs_counts.proofs.traces.note_trace.Goals as goal
 
-pub note_rest-requires : goal.note_rest-requires
-note_rest-requires c =
-    (record { peer = peer_in c.args.plan.now c.args.peer.now.0; before = []; left = reverse c.args.peer.now.1.trace }, c.in_ok-follower.ensures)
+pub see-requires : goal.see-requires
+see-requires c =
+    (c.args.plan.now, c.args.peer.now.0, [], c.in_ok-seat.ensures, order_whole c.entries.result.now c.args.peer.now.1.trace c.entries.ensures c.requires.order)
 
 pub returns : goal.returns
 returns c =
     let plan = c.args.plan.now in
     let p = c.args.peer.now.0 in
-    let trace = c.args.peer.now.1.trace in
     on_ok_weaker
-    c.note_rest.result
-    (λ told. told plan p trace c.args.tables.now (begun plan p trace _ _ c.args.tables.now c.in_ok-follower.ensures c.in_ok-notes.ensures))
-    c.note_rest.ensures
+    c.see.result
+    (λ seen. shown_whole plan p c.entries.result.now c.args.peer.now.1.trace c.entries.ensures (seen plan p [] c.in_ok-seat.ensures))
+    c.see.ensures.tables

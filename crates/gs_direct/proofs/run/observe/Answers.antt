@@ -15,7 +15,7 @@ use Rattle.gs_direct.proofs.run.observe.Goals as goal
 pub loop-number-init : goal.loop-number-init
 loop-number-init g c =
     let (before, seen, grown) = c.requires.saw in
-    (before, grown, none_shown (g.O.Observer.saw c.args.observer.now) before (trace_at c.args.peers.now) seen)
+    (before, grown, none_shown (g.O.Observer.saw c.args.observer.now) before (trace_at c.args.peers.now) seen, refl)
 
 pub bounds-peers-from : goal.bounds-peers-from
 bounds-peers-from g c =
@@ -26,7 +26,7 @@ pub see-requires : goal.see-requires
 see-requires g c =
     let n : ℕ = c.loop-number.number in
     let peers = c.args.peers.now in
-    let (before, grown, h) = c.loop-number.invariant in
+    let (before, grown, h, same) = c.loop-number.invariant in
     let below : n < length c.args.plan.now.peers = search rules in
     let index : ℕ = c.from.result in
     let peer = get_or peers index c.index-peers-from.result in
@@ -40,26 +40,34 @@ pub loop-number-preserved : goal.loop-number-preserved
 loop-number-preserved g c =
     let n : ℕ = c.loop-number.number in
     let peers = c.args.peers.now in
-    let (before, grown, h) = c.loop-number.invariant in
+    let (before, grown, h, same) = c.loop-number.invariant in
     let below : n < length c.args.plan.now.peers = search rules in
     let later : PeerNo → Entries = shown (n + 1) before (trace_at peers) in
     let index : ℕ = c.from.result in
     let peer = get_or peers index c.index-peers-from.result in
     let there : slice_get peers n ≡ Some peer = ap (slice_get peers) (sym c.from.ensures) ∙ slice_get-get_or peers index c.index-peers-from.result (omega (arith, c.from.ensures, c.requires.many, below)) in
     let here = trace_is peers (peer_no n) peer there in
-    let entries = c.round-round.ensures ∙ ap (λ (L : Entries). reverse (this_round L)) (sym here) in (
+    let entries = c.round-round.ensures ∙ ap (λ (L : Entries). reverse (this_round L)) (sym here) in
+    let whole = round_whole n before (trace_at peers) h.seen c.round-round.result.now grown entries h.same ∙ here in
+    let order = subst AreInOrder (sym whole) (one_of (λ x. AreInOrder x.router.trace) peers n peer there c.requires.order) in (
       before,
       grown,
       record {
         seen = later;
-        told = c.in_ok-see.ensures h.seen later (one_shown n before (trace_at peers) h.seen c.round-round.result.now grown entries h.same) h.told;
+        told = c.in_ok-see.ensures.saw h.seen later (one_shown n before (trace_at peers) h.seen c.round-round.result.now grown entries h.same) order h.told;
         same = λ p. refl;
       },
+      c.in_ok-see.ensures.question ∙ same,
     )
 
-pub returns : goal.returns
-returns g c =
+pub returns-clause-question : goal.returns-clause-question
+returns-clause-question g c =
+    let (before, grown, h, same) = c.loop-number.invariant in
+    same
+
+pub returns-clause-saw : goal.returns-clause-saw
+returns-clause-saw g c =
     let peers = c.args.peers.now in
-    let (before, grown, h) = c.loop-number.invariant in
+    let (before, grown, h, same) = c.loop-number.invariant in
     let ends : c.loop-number.number ≡ length c.args.plan.now.peers = search rules in
     all_shown (g.O.Observer.saw c.loop-number.observer) c.loop-number.number before (trace_at peers) grown (λ p above. none_past peers p (omega (arith, above, ends, c.requires.many))) h

@@ -3,7 +3,7 @@ use Rattle.std.specs.List.{AllByRecursion}
 use Rattle.gs_base.specs.declared.names.PeerNo.{PeerNo}
 use Rattle.gs_report.specs.declared.finished.Finished.{Finished}
 use Rattle.gs_direct.specs.declared.peer.Peer.{Peer}
-use Rattle.gs_direct.specs.Peers.{remains_of}
+use Rattle.gs_report.specs.Seen.{remains_of}
 use Rattle.gs_direct.specs.Runs.{numbered}
 use Rattle.gs_direct.proofs.run.remains_of_all.Given as goal
 

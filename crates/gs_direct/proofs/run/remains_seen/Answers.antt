@@ -1,17 +1,17 @@
-use Rattle.std.proofs.Common.{rules, ◌≡◌, false, [], length, map, sym, ap, subst, ◌∙◌, IfOk, Result, Ok, Err}
+use Rattle.std.proofs.Common.{rules, ◌≡◌, false, List, [], length, map, sym, ap, subst, ◌∙◌, IfOk, Result, Ok, Err}
 use Rattle.std.specs.List.{AllByRecursion}
 use Rattle.gs_base.specs.declared.names.PeerNo.{PeerNo}
 use Rattle.gs_report.specs.declared.finished.Finished.{Finished}
 use Rattle.gs_rules.specs.Rounds.{Closing, moment_of}
-use Rattle.gs_seats.specs.Rounds.{peer_no, seat_in}
+use Rattle.gs_seats.specs.Rounds.{peer_no, seat_in, trace_of}
 use Rattle.gs_seats.proofs.ByNumber.{as_many}
 use Rattle.gs_direct.specs.declared.peer.Peer.{Peer}
-use Rattle.gs_direct.specs.Peers.{IsNewPeer, left_of, remains_of}
+use Rattle.gs_report.specs.Seen.{remains_of}
+use Rattle.gs_direct.specs.Peers.{IsNewPeer, left_of}
 use Rattle.gs_direct.specs.Runs.{AreAt, numbered, trace_at}
-use Rattle.gs_direct.proofs.Finishing.{all_closed, lent, numbers_left, still_run}
-use Rattle.gs_direct.proofs.Closing.{ended_run}
+use Rattle.gs_direct.proofs.Finishing.{all_closed, lent, numbers_left, run_left, seconds, still_run}
 use Rattle.gs_direct.proofs.Loops.{all_begin}
-use Rattle.gs_direct.proofs.Observing.{lives_traces, new_traces, remains_numbers, remains_values}
+use Rattle.gs_direct.proofs.Observing.{lives_traces, new_traces}
 use Rattle.gs_direct.proofs.run.remains_seen.Goals as goal
 
 if_ok : {A E : Type 0} (r : Result A E) (P Q : A → Type 0) → ((x : A) → P x → Q x) → IfOk r P → IfOk r Q
@@ -40,8 +40,8 @@ remains_of_all-requires-clause-running g c =
     subst (AllByRecursion (λ (peer : Peer _). peer.router.is_stopped ≡ false)) (sym (lent count news _ (all_closed plan e.olds news e.mail e.at_end e.closed ∙ sym counted)))
     (still_run plan e.olds news e.mail e.at_end e.closed)
 
-pub returns : goal.returns
-returns g c =
+pub returns-clause-run : goal.returns-clause-run
+returns-clause-run g c =
     let plan = c.args.plan.now in
     let count = c.in_ok-peers.peers.len in
     let counted : count ≡ length plan.peers = search rules ∙ as_many (IsNewPeer plan) plan c.in_ok-peers.peers.items c.in_ok-peers.ensures in
@@ -51,9 +51,13 @@ returns g c =
     let now = moment_of (seat_in plan (peer_no 0)) Closing in
     let same = lent count news _ (all_closed plan e.olds news e.mail e.at_end e.closed ∙ sym counted) in
     if_ok c.remains_of_all.result _ _ (λ remains is. (
-      map (left_of now) news,
-      ended_run plan e.olds news e.mail e.at_end e.closed,
-      record { seen = saw.seen; told = saw.told; same = λ p. saw.same p ∙ lives_traces now news p },
-      remains_numbers plan remains.items news (is ∙ ap (λ peers. map (λ (x : PeerNo × Finished). (x.0, remains_of x.1)) (map (numbered plan) peers)) same) ∙ numbers_left plan e.olds news e.mail e.at_end e.closed,
-      remains_values plan remains.items news (is ∙ ap (λ peers. map (λ (x : PeerNo × Finished). (x.0, remains_of x.1)) (map (numbered plan) peers)) same),
+      map (numbered plan) news,
+      numbers_left plan e.olds news e.mail e.at_end e.closed,
+      run_left plan e.olds news e.mail e.at_end e.closed,
+      record {
+        seen = saw.seen;
+        told = saw.told;
+        same = λ p. saw.same p ∙ lives_traces now news p ∙ ap (λ (lives : List Finished). trace_of lives p) (sym (seconds plan news));
+      },
+      is ∙ ap (λ peers. map (λ (x : PeerNo × Finished). (x.0, remains_of x.1)) (map (numbered plan) peers)) same,
     )) c.remains_of_all.ensures

@@ -1,7 +1,7 @@
-use Rattle.std.proofs.Common.{◌≡◌, ◌++◌}
-use Rattle.gs_opinions.specs.Listing.{rows_by}
+use Rattle.std.proofs.Common.{◌≡◌, ◌++◌, flat_map}
+use Rattle.gs_opinions.proofs.Ascending.{as_row}
 use Rattle.gs_opinions.proofs.run.list_pairs.Given as goal
 
--- the rows of the numbers so far come after what was listed
-abbrev pub invariant-loop-number : goal.invariant-loop-number
-invariant-loop-number l = l.pairs ≡ l.initial.pairs ++ rows_by l.by l.row l.number
+-- the rows so far come after what was listed, and the others are left
+abbrev pub invariant-loop-of : goal.invariant-loop-of
+invariant-loop-of l = l.pairs ++ flat_map (as_row l.by l.count) l.of-iterator ≡ l.initial.pairs ++ flat_map (as_row l.by l.count) l.row.entries

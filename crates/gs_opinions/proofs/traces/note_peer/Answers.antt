@@ -1,21 +1,27 @@
-use Rattle.std.proofs.Common.{◌++◌, subst}
-use Rattle.std.proofs.lemmas.Result.{on_ok_weaker}
+use Rattle.std.proofs.Common.{◌≡◌, List, [], ◌++◌, append-nil, reverse, ap, subst, sym, ◌∙◌}
 use Rattle.gs_rules.specs.Tables.{Entries}
-use Rattle.gs_seats.specs.Rounds.{peer_in}
+use Rattle.gs_router.specs.Following.{AreInOrder}
+use Rattle.gs_opinions.specs.declared.opinion.Opinion.{Opinion}
 use Rattle.gs_opinions.specs.Noting.{Shows}
 use Rattle.gs_opinions.specs.Opinions.{trace_opinions}
-use Rattle.gs_opinions.proofs.Reading.{begun}
+use Rattle.gs_opinions.proofs.Reading.{later_is}
 use Rattle.gs_opinions.proofs.traces.note_peer.Goals as goal
 
-pub note_entries-requires-clause-follows : goal.note_entries-requires-clause-follows
-note_entries-requires-clause-follows c =
-    begun (peer_in c.args.plan.now c.args.peer.now.0) _ _ _ c.entries.ensures c.in_ok-follower.ensures
+pub see-requires : goal.see-requires
+see-requires c = (
+  c.args.plan.now,
+  c.args.peer.now.0,
+  [],
+  c.in_ok-judge.ensures,
+  subst (λ (L : Entries). AreInOrder L) (sym (append-nil (reverse c.entries.result.now) ∙ c.entries.ensures)) c.requires.order,
+)
 
 pub returns : goal.returns
-returns c =
+returns c = λ groups os was.
     let plan = c.args.plan.now in
     let p = c.args.peer.now.0 in
-    on_ok_weaker
-    c.note_entries.result
-    (λ told groups os was. subst (λ (L : Entries). Shows plan groups c.note_entries.new.tables (os ++ trace_opinions plan p L)) c.entries.ensures (told groups os was))
-    c.note_entries.ensures
+    let es = c.entries.result.now in
+    let all : reverse es ++ [] ≡ c.args.peer.now.1.trace = append-nil (reverse es) ∙ c.entries.ensures in
+    let told = c.in_ok-see.ensures plan p [] c.in_ok-judge.ensures in
+    subst (λ (xs : List Opinion). Shows plan groups c.see.new.tables (os ++ xs)) (sym (later_is plan p es []) ∙ ap (trace_opinions plan p) all)
+    (told.1 groups os was)

@@ -1,6 +1,5 @@
-use Rattle.std.proofs.Common.{List, ap, ap₂, sym, ◌∙◌}
+use Rattle.std.proofs.Common.{ap, ap₂, sym, ◌∙◌}
 use Rattle.std.proofs.lemmas.Result.{on_ok_weaker}
-use Rattle.gs_base.specs.declared.mark.Mark.{Mark}
 use Rattle.gs_rules.specs.Tables.{after_marks}
 use Rattle.gs_counts.specs.Meshes.{members_after}
 use Rattle.gs_counts.specs.Topics.{subscribed_after}

@@ -1,4 +1,4 @@
-use Rattle.std.proofs.Common.{List, ◌++◌, arith, take, subst}
+use Rattle.std.proofs.Common.{List, ◌++◌, take, subst}
 use Rattle.std.proofs.lemmas.List.{take_all}
 use Rattle.gs_counts.specs.declared.happening.Happening.{Happening}
 use Rattle.gs_counts.specs.Standing.{Shows}

@@ -11,7 +11,7 @@ pub returns : goal.returns
 returns g c =
     let plan = c.args.plan.now in
     let p = c.args.number in
-    let same : c.deref.result.now ≡ neighbours_in plan p = search rules in
+    let same : c.deref.result.now ≡ neighbours_in plan p = c.deref.ensures.value ∙ c.requires.neighbours in
     record {
       number = refl;
       agenda = c.in_ok-agenda.ensures ∙ c.requires.own;

@@ -3,7 +3,7 @@ use Rattle.std.specs.Prelude.{ℤ}
 use Rattle.gs_base.specs.declared.names.PeerNo.{PeerNo}
 use Rattle.gs_base.specs.declared.names.Topic.{Topic}
 use Rattle.gs_rules.specs.declared.refusal.RefusedLine.{RefusedLine}
-use Rattle.gs_direct.specs.declared.peer.Remains.{Remains}
+use Rattle.gs_report.specs.declared.remains.Remains.{Remains}
 use Rattle.gs_direct.specs.Peers.{left_of}
 use Rattle.gs_direct.proofs.peer.Peer.remains.Goals as goal
 

@@ -1,10 +1,11 @@
-use Rattle.std.proofs.Common.{ap, ◌∙◌}
-use Rattle.gs_opinions.specs.Noting.{empty_rows}
+use Rattle.std.proofs.Common.{arith, refl}
 use Rattle.gs_opinions.proofs.tables.Tables.new.Goals as goal
 
 pub returns : goal.returns
-returns c = record {
-  pairs = c.in_ok-pairs.ensures ∙ ap empty_rows c.len.ensures;
+returns c = let lasts = c.requires.some_time in record {
+  lasts = omega (arith, lasts);
+  round_ms = refl;
+  pairs = c.in_ok-pairs.ensures;
   rounds = c.in_ok-rounds.ensures;
   groups = c.in_ok-groups.ensures;
 }

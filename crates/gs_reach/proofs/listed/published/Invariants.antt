@@ -1,8 +1,0 @@
-use Rattle.std.proofs.Common.{◌≡◌, take}
-use Rattle.std.specs.List.{flat_map}
-use Rattle.gs_reach.specs.Listed.{published_at}
-use Rattle.gs_reach.proofs.listed.published.Given as goal
-
--- what the peers so far say
-abbrev pub invariant-loop-peer : goal.invariant-loop-peer
-invariant-loop-peer l = l.list ≡ flat_map published_at (take l.peer-index l.peers)
