@@ -2,3 +2,4 @@ pub mod Arguments
 pub mod Printing
 pub mod Program
 pub mod Endings
+pub mod Summaries

@@ -5,8 +5,10 @@ mod arguments;
 mod printer;
 mod program;
 mod reading;
+mod summary;
 mod telling;
 
 pub use arguments::{arguments_of, refuse_arguments, refuse_unread};
 pub use printer::{PrintFault, Printer, print_whole};
 pub use program::{ExitStatus, Program};
+pub use summary::{Summarizer, SummaryProgram};
