@@ -31,7 +31,8 @@ abbrev pub if_seated : {A : Type 0} → Option Seat → List A → List A
 if_seated seat xs = if is_some seat then xs else []
 
 -- Of this many peers each chosen one has a state, and no other peer has one. The states have seen these traces.
-pub record AreSeats (count : ℕ) (plan : Plan) (of : Chosen) (seats : List (Option Seat)) (traces : PeerNo → Entries) : Type 0 where
+pub record AreSeats (count : ℕ) (plan : Plan) (of : Chosen) (seats : List (Option Seat))
+    (traces : PeerNo → Entries) : Type 0 where
   pub many : length seats ≡ count
   pub seated : (p : PeerNo) → is_some (seat_of seats p) ≡ (nat_lt p.0 count && is_chosen of p)
   pub seen : (p : PeerNo) → IfSeated plan p (traces p) (seat_of seats p)

@@ -126,7 +126,8 @@ pub record AreAt {T : Type 0} (plan : Plan) (r : ℕ) (peers : List (Peer T)) (m
 -- ---- within a round
 
 -- A peer plays a round and hands over what it said: these letters to each peer.
-pub record Turns {T : Type 0} (r : ℕ) (now : Millis) (letters : List Letter) (old new : Peer T) (gives : PeerNo → List Letter) : Type 0 where
+pub record Turns {T : Type 0} (r : ℕ) (now : Millis) (letters : List Letter) (old new : Peer T)
+    (gives : PeerNo → List Letter) : Type 0 where
   pub played : Peer T
   pub plays : PlaysRound r now letters old played
   pub rest : new ≡ record played { outlets = new.outlets }

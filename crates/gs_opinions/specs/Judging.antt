@@ -23,12 +23,13 @@ opinions_in plan of traces = flat_map (λ p. trace_opinions plan p (traces p)) (
 abbrev pub chosen_opinions : Plan → Chosen → PeerNo → List Entry → Entries → List Opinion
 chosen_opinions plan of p es L = if is_chosen of p then later_opinions plan p es L else []
 
--- the state of a peer: it is taken exactly if the peer is chosen, and then the trace of the peer was seen
+-- a peer has a state exactly if it is chosen, and then its trace was seen
 abbrev pub Sits : Plan → Chosen → (PeerNo → Entries) → PeerNo → Option Judge → Type 0
 Sits plan of traces p None = is_chosen of p ≡ false
 Sits plan of traces p (Some judge) = (is_chosen of p ≡ true) × HasSeen plan p judge (traces p)
 
--- The chosen peers of a plan were seen, with these traces. There is a state for each peer of the plan, by number.
-pub record HasJudged (plan : Plan) (of : Chosen) (groups : List Chosen) (judging : Judging) (traces : PeerNo → Entries) : Type 0 where
+-- The chosen peers of a plan were seen, with these traces. States are by number, and other peers have none.
+pub record HasJudged (plan : Plan) (of : Chosen) (groups : List Chosen) (judging : Judging)
+    (traces : PeerNo → Entries) : Type 0 where
   pub seats : AllZip (Sits plan of traces) (numbers plan) judging.seats.items
   pub tables : Shows plan groups judging.tables (opinions_in plan of traces)

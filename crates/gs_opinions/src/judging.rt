@@ -26,7 +26,7 @@ use std::alloc::{AllocError, Global};
 /// The lowest opinions of a run so far, of the chosen peers. It keeps no trace.
 #[derive(Drop)]
 pub struct Judging<'a> {
-    /// A state for each peer of the plan, by number. It is empty where the peer is not chosen.
+    /// A state for each chosen peer of the plan, and none for each other one, by number.
     seats: Vec<Option<Judge>>,
     tables: Tables<'a>,
 }

@@ -56,7 +56,8 @@ known_neighbour known address q = record {
 -- ---- what concerns each peer
 
 -- Each peer below a count has a list of the parts that concern it, in their order.
-pub record AreByPeer {A : Type 0} (is_of : PeerNo → A → Bool) (count : ℕ) (parts : List A) (lists : List (Vec A Global)) : Type 0 where
+pub record AreByPeer {A : Type 0} (is_of : PeerNo → A → Bool) (count : ℕ) (parts : List A)
+    (lists : List (Vec A Global)) : Type 0 where
   pub many : length lists ≡ count
   pub own : (p : PeerNo) → p.0 < count → list_at lists p.0 ≡ filter (is_of p) parts
 
