@@ -58,7 +58,7 @@ version() {
   echo "$tool commit $commit, $kit"
 }
 
-words=("$@") arguments=() edits=() files=() is_strict='' has_words='' until='' large=()
+words=("$@") arguments=() edits=() files=() is_strict='' has_words='' has_progress='' until='' large=()
 
 change() {
   [[ $1 == *=* ]] || stop 64 "--set takes KEY=VALUE, not $1; --help says more"
@@ -119,12 +119,22 @@ open_input() {
 # The links of many peers take much memory, which is there faster in pages of 2 MiB (glibc 2.35 and later).
 tunables=${GLIBC_TUNABLES-glibc.malloc.hugetlb=1:glibc.malloc.top_pad=67108864}
 
-# Runs a program on standard input, proved or not.
+# Runs a program on standard input, proved or not. `shower` is what shows how far it is.
+shower=()
 call() {
   local status=0
-  GLIBC_TUNABLES=$tunables "${path_of[$1]}" "${@:2}" || status=$?
+  GLIBC_TUNABLES=$tunables "${shower[@]}" "${path_of[$1]}" "${@:2}" || status=$?
   [ -z "${is_unproved[$1]-}" ] || stop_at_fault "$1" "$status"
   return "$status"
+}
+
+# Runs `program` with `arguments`. Where it can write how far its run is, and standard error is a terminal, that is shown there.
+call_shown() {
+  local options=("${large[@]}") shower=()
+  if [ -n "$has_progress" ] && [ -t 2 ] && command -v python3 >/dev/null; then
+    options+=(--progress) shower=(python3 "$top/bin/lib/progress.py")
+  fi
+  call "$program" "${options[@]}" "${arguments[@]}"
 }
 
 # Copies standard input, so that it can be read again, up to one byte more than it may have. A program refuses that itself,
@@ -239,7 +249,7 @@ run_changed() {
     exit
   fi
   [ "$program" != gossip_check ] || print_answer
-  call "$program" "${large[@]}" "${arguments[@]}" || status=$?
+  call_shown || status=$?
   [ "$status" -ne 1 ] || explain_refusal
   exit "$status"
 }

@@ -14,6 +14,11 @@ stats_of_input() {
   stats "$@" <"$example"
 }
 
+# The program itself, over the example.
+program_of_figures() {
+  "$top/crates/gossip_stats/out/gossip_stats" "$@" <"$example"
+}
+
 # Prints what is counted in one row for all peers, and otherwise in all rows of each round, and of each link.
 sums_of() {
   stats --csv "$1" >"$room/figures.csv" && stats --csv --rounds "$1" >"$room/rounds.csv" \
@@ -40,12 +45,14 @@ END
 # How their options and FILE are read. What they print of a scenario is compared with what the tests of their crates compare
 # it with.
 check_figures() {
-  local figures picture file usage more='--help says more'
+  local figures picture file rounds usage more='--help says more'
   figures=$(cat "$top/crates/gossip_stats/stdout")
   picture=$(cat "$top/crates/gossip_picture/stdout")
   expect 'figures of a file' 0 "$figures" '' stats "$example"
   expect 'figures of standard input' 0 "$figures" '' stats_of_input
   expect 'figures of a changed scenario' 0 "$figures" '' stats --workers 1 --set rounds=10 "$example"
+  rounds=$(printf 'round %s of 10, %s deliveries\n' 0 0 1 0 2 1 3 2 4 2 5 2 6 2 7 2 8 2 9 2 10 2)
+  expect 'figures with the rounds, by the program' 0 "$figures" "$rounds" program_of_figures --progress
   expect_like 'figures as CSV' 0 '*,*,*' '' stats --csv "$example"
   expect_like 'figures of rounds as JSON' 0 '{*"rounds":[[]*"round":10,*' '' stats --json --rounds "$example"
   expect_like 'figures of topics' 0 '*news *' '' stats --topics "$example"
@@ -57,7 +64,8 @@ check_figures() {
     expect "the sums over rounds and links of $(basename "$file" .toml)" 0 '' '' sums_of "$file"
   done
   expect 'figures of nothing' 1 '' 'scenario refused: 28 round_ms' stats /dev/null
-  usage='usage: gossip_stats [--large] [--by PEERS|--rounds|--topics|--links] [--of PEERS] [--group NAME=PEERS].. [--csv|--json]'
+  usage='usage: gossip_stats [--large] [--progress] [--by PEERS|--rounds|--topics|--links] [--of PEERS] [--group NAME=PEERS].. [--csv|--json]'
+  expect 'rounds before the limits, by the program' 64 '' "$usage" program_of_figures --progress --large
   expect 'two forms of figures' 64 '' "$usage" stats --csv --json "$example"
   expect 'publishers of no message' 64 '' 'gossip_stats: --rounds has no messages, so there is no place for --by; --help says more' \
     stats --by a --rounds "$example"

@@ -63,7 +63,7 @@ in_groups() {
 # A program is compiled for its sources, once.
 check_kept() {
   local base='$room/tree/crates/gs_base' said='gossip_sim: compiling gossip_sim without proof' usage
-  usage='usage: gossip_stats [--large] [--by PEERS|--rounds|--topics|--links] [--of PEERS] [--group NAME=PEERS].. [--csv|--json]'
+  usage='usage: gossip_stats [--large] [--progress] [--by PEERS|--rounds|--topics|--links] [--of PEERS] [--group NAME=PEERS].. [--csv|--json]'
   expect 'a second run of the same' 0 '' '' compiled_after :
   expect 'a run after a touch' 0 '' '' compiled_after "touch $base/src/lib.rt"
   expect 'a run after a change of tests' 0 '' '' compiled_after "echo '// a' >>$base/src/tests.rt"

@@ -95,14 +95,15 @@ def as_declared(code, text):
 
 def members_of(code, inside):
     """The ghost members of a trait, with the comments above them, and the names that they use."""
-    kept, used, comments = [], set(), []
+    kept, used, comments, own = [], set(), [], set()
     for line in inside:
-        found = re.match(r"\s*ghost (?!use)\w+(?:[: =]+)\{?(.*?)\}?;", line)
+        found = re.match(r"\s*ghost (?!use)(\w+)(?:[: =]+)\{?(.*?)\}?;", line)
         if found:
             kept += [*comments, as_declared(code, line)]
-            used |= {word for word in tokens_of([found.group(1)]) if NAME.match(word)}
+            own.add(found.group(1))
+            used |= {word for word in tokens_of([found.group(2)]) if NAME.match(word)}
         comments = [*comments, line] if re.match(r"\s*//", line) else []
-    return kept, used - BUILT_IN
+    return kept, used - BUILT_IN - own
 
 
 class Contract:

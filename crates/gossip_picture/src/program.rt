@@ -91,6 +91,7 @@ where
             let program = Program {
                 alloc,
                 limits,
+                progress: false,
                 printer: PictureOf { asked },
             };
             program.run_to_exit(input, output, errors)

@@ -321,6 +321,7 @@ fn drawn(alloc: Global, scenario: &str, asked: Asked<'_>) -> Vec<u8> {
     let program = Program {
         alloc,
         limits: Limits::Standard,
+        progress: false,
         printer: PictureOf { asked },
     };
     let code = program.run_to_exit(&mut input, &mut output, &mut errors);
@@ -370,6 +371,7 @@ fn a_refused_scenario_has_no_picture(rt: HostRuntime) {
     let program = Program {
         alloc: rt.alloc(),
         limits: Limits::Standard,
+        progress: false,
         printer: PictureOf {
             asked: by_all(Subject::First),
         },

@@ -101,6 +101,7 @@ where
             let program = Program {
                 alloc,
                 limits,
+                progress: false,
                 printer: ScoresOf { asked },
             };
             program.run_to_exit(input, output, errors)

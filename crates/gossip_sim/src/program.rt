@@ -110,6 +110,7 @@ where
     let program = Program {
         alloc: rt.alloc(),
         limits: Limits::Standard,
+        progress: false,
         printer: Lines,
     };
     match program.read(input, errors) {
@@ -140,6 +141,7 @@ where
     let program = Program {
         alloc,
         limits,
+        progress: false,
         printer: Lines,
     };
     program.run(input, output, errors)

@@ -195,5 +195,6 @@ is_group_option name = same_bytes name (codes "--group")
 
 -- the line that is written for wrong arguments
 unfoldable pub usage : List ℕ
-usage = codes
-    "usage: gossip_stats [--large] [--by PEERS|--rounds|--topics|--links] [--of PEERS] [--group NAME=PEERS].. [--csv|--json]\n"
+usage =
+    codes "usage: gossip_stats [--large] [--progress] [--by PEERS|--rounds|--topics|--links] [--of PEERS] "
+    ++ codes "[--group NAME=PEERS].. [--csv|--json]\n"

@@ -1,10 +1,10 @@
 -- What the program prints of a run, and how it ends.
-use Rattle.std.specs.Prelude.{ℕ, false, List, Option, Some, None}
+use Rattle.std.specs.Prelude.{ℕ, Bool, false, List, Option, Some, None}
 use Rattle.gs_plan.specs.declared.plan.Plan.{Plan}
 use Rattle.gs_report.specs.declared.report.Report.{Report}
 use Rattle.gs_program.specs.Arguments.{IsMisused}
 use Rattle.gs_plan.specs.declared.limits.Limits.{Limits}
-use Rattle.gs_program.specs.Program.{EndsWith}
+use Rattle.gs_program.specs.Progress.{ExitsShowing}
 use Rattle.gs_sheets.specs.declared.sheet.Sheet.{Sheet}
 use Rattle.gs_sheets.specs.Sheets.{sheets_csv, sheets_json, sheets_table}
 use Rattle.gs_figure_sheets.specs.FigureSheets.{figure_sheets}
@@ -48,8 +48,8 @@ abbrev pub printed : Wishes → Plan → Report → List ℕ
 printed w plan report = written w.form (figure_sheets plan report (sheets_wished w))
 
 abbrev pub EndsFor
-    : Limits → Option Wishes → (status : ℕ) (input input' output output' errors errors' : Option (List ℕ)) → Type 0
-EndsFor limits None status input input' output output' errors errors' =
+    : Limits → (progress : Bool) → Option Wishes → (status : ℕ) (input input' output output' errors errors' : Option (List ℕ)) → Type 0
+EndsFor limits progress None status input input' output output' errors errors' =
     IsMisused usage status input input' output output' errors errors'
-EndsFor limits (Some wishes) status input input' output output' errors errors' =
-    EndsWith limits (printed wishes) false false status input input' output output' errors errors'
+EndsFor limits progress (Some wishes) status input input' output output' errors errors' =
+    ExitsShowing limits (printed wishes) false false progress status input input' output output' errors errors'

@@ -13,7 +13,8 @@ use std::process::ExitCode;
 
 /// How the program is called.
 pub const USAGE: &str =
-    "usage: gossip_stats [--large] [--by PEERS|--rounds|--topics|--links] [--of PEERS] [--group NAME=PEERS].. [--csv|--json]\n";
+    "usage: gossip_stats [--large] [--progress] [--by PEERS|--rounds|--topics|--links] [--of PEERS] \
+    [--group NAME=PEERS].. [--csv|--json]\n";
 
 /// How many groups there may be.
 pub const MOST_GROUPS: usize = 16;

@@ -1,23 +1,25 @@
 //! The program: it writes figures of the scenario that it reads.
-ghost use Rattle.std.specs.List.{AllByRecursion};
-ghost use Rattle.std.specs.Prelude.{◌≡◌, false, IfOk, map, string_bytes};
+ghost use Rattle.std.specs.Prelude.{◌≡◌, IfOk, List, OnErr, map, string_bytes};
 ghost use Rattle.std.specs.Process.{exit_status};
-ghost use Rattle.gs_base.specs.declared.names.PeerNo.{PeerNo as PeerNoValue};
+ghost use Rattle.gs_direct.specs.Stages.{HasShownAll, Shows};
+ghost use Rattle.gs_direct.specs.declared.stages.Stage.{Stage as StageValue};
+ghost use Rattle.gs_figure_sheets.specs.FigureSheets.{sheets_of};
 ghost use Rattle.gs_figure_sheets.specs.Parties.{group_wish};
+ghost use Rattle.gs_figure_sheets.specs.Wishes.{wishes_of as sheet_wishes_of};
 ghost use Rattle.gs_plan.specs.Plans.{IsInRange};
+ghost use Rattle.gs_program.specs.Arguments.{after_progress, progress_for};
+ghost use Rattle.gs_report.specs.declared.report.Report.{Report as ReportValue};
+ghost use Rattle.gs_seats.specs.Reports.{IsReport};
 ghost use Rattle.gs_streams.specs.Arguments.{limits_for, options_in};
-ghost use Rattle.gs_report.specs.declared.finished.Finished.{Finished as FinishedValue};
-ghost use Rattle.gs_router.specs.Following.{AreInOrder};
 ghost use Rattle.gossip_stats.specs.Arguments.{asked_for, group_of, wishes_of};
-ghost use Rattle.gossip_stats.specs.Printed.{EndsFor, layout_for, printed, subject_or_run, written};
+ghost use Rattle.gossip_stats.specs.Printed.{EndsFor, layout_for, printed, sheets_wished, subject_or_run, written};
 
 use crate::arguments::{Asked, Form, Named, asked_by, refuse};
 use gs_base::Seq;
-use gs_figure_sheets::{Group, Layout, Subject, Wanted, figure_sheets};
+use gs_direct::{Gauge, run_observed};
+use gs_figure_sheets::{Gathering, Group, Inquiry, Layout, Subject, Wanted};
 use gs_plan::Plan;
-use gs_program::{PrintFault, Printer, Program, print_whole};
-use gs_report::Report;
-use gs_seats::traces_of_a_report_are_in_order;
+use gs_program::{Summarizer, SummaryProgram, progress_in};
 use gs_sheets::{Sheet, sheets_csv, sheets_json, sheets_table};
 use gs_streams::limits_in;
 use std::alloc::{AllocError, Global};
@@ -30,43 +32,60 @@ struct FiguresOf<'a> {
     asked: Asked<'a>,
 }
 
-impl<'a> Printer for FiguresOf<'a> {
-    ghost text = { λ printer plan report. printed (wishes_of printer.asked) plan report };
+impl<'a> Summarizer for FiguresOf<'a> {
+    ghost text = { λ figures plan report. printed (wishes_of figures.asked) plan report };
 
-    ghost in_parts = { false };
-
-    fn print<W: Write>(
+    fn summarize<G: Gauge>(
         &self,
         alloc: Global,
         plan: &Plan,
-        report: &Report,
-        output: &mut W,
-    ) -> Result<(), PrintFault> {
-        traces_of_a_report_are_in_order();
-        print_whole(printed(alloc, &self.asked, plan, report), output)
+        gauge: &mut G,
+    ) -> Result<Vec<u8>, AllocError> {
+        let wanted = wanted_by(alloc, &self.asked)?;
+        let inquiry = Inquiry::of(alloc, plan, &wanted)?;
+        let sheets = sheets_for(alloc, plan, &inquiry, gauge)?;
+        let text = written(alloc, self.asked.form, sheets.as_slice())?;
+        Ok(text)
     }
 }
 
-/// The figures that are asked for.
-fn printed(
+/// The sheets of a run that answer what is asked. A gauge shows how far the run is.
+fn sheets_for<G: Gauge>(
     alloc: Global,
-    asked: &Asked<'_>,
     plan: &Plan,
-    report: &Report,
-) -> Result<Vec<u8>, AllocError>
-    requires range { IsInRange plan.now }
-    requires order { AllByRecursion (λ (x : PeerNoValue × FinishedValue). AreInOrder x.1.trace) report.now.peers.items }
-    ensures { IfOk result (λ text. text.items ≡ printed (wishes_of asked.now) plan.now report.now) }
+    inquiry: &Inquiry,
+    gauge: &mut G,
+) -> Result<Seq<Sheet>, AllocError>
+    requires { IsInRange plan.now }
+    ensures answers { IfOk result (λ sheets. (report : ReportValue)
+        × IsReport plan.now report
+        × (sheets ≡ sheets_of plan.now inquiry.now report)
+        × HasShownAll G.has_shown gauge.old gauge.new plan.now report) }
+    ensures stopped { OnErr result ((stages : List StageValue)
+        × Shows G.has_shown gauge.old gauge.new stages) }
 {
-    let wanted = Wanted {
+    let mut gathering = Gathering::new(alloc, plan, inquiry)?;
+    match run_observed(alloc, plan, &mut gathering, gauge) {
+        Ok(remains) => {
+            let sheets = gathering.sheets(alloc, remains)?;
+            Ok(sheets)
+        }
+        Err(_) => Err(AllocError),
+    }
+}
+
+/// The sheets that are asked for.
+fn wanted_by<'a>(alloc: Global, asked: &Asked<'a>) -> Result<Wanted<'a>, AllocError>
+    ensures { IfOk result (λ wanted. sheet_wishes_of wanted ≡ sheets_wished (wishes_of asked.now)) }
+{
+    let groups = groups_of(alloc, asked.groups.as_slice())?;
+    Ok(Wanted {
         by: asked.by,
         among: asked.among,
-        groups: groups_of(alloc, asked.groups.as_slice())?,
+        groups,
         subject: subject_or_run(asked.subject),
         layout: layout_for(asked.form),
-    };
-    let sheets = figure_sheets(alloc, plan, report, &wanted)?;
-    written(alloc, asked.form, sheets.as_slice())
+    })
 }
 
 /// The groups that are asked for, in the form that sheets need.
@@ -112,8 +131,9 @@ fn written(alloc: Global, form: Option<Form>, sheets: &[Sheet]) -> Result<Vec<u8
 }
 
 /// Runs the program with these arguments over these streams, and returns the exit status of its process. Where the arguments
-/// ask for something, it ends as `gossip_sim` does, and its text is what they ask for. Otherwise it reads no input, writes
-/// the usage line or a front of it to `errors`, and ends with 64.
+/// ask for something, it ends as `gossip_sim` does, and its text is what they ask for. After `--progress`, `errors` has lines
+/// about the run before that. Otherwise it reads no input, writes the usage line or a front of it to `errors`, and ends
+/// with 64.
 pub fn run<R, W, E>(
     alloc: Global,
     arguments: &[String],
@@ -126,17 +146,20 @@ where
     W: Write,
     E: Write,
     ensures { EndsFor (limits_for (map string_bytes arguments.now))
-        (asked_for (options_in (map string_bytes arguments.now))) (exit_status result)
+        (progress_for (options_in (map string_bytes arguments.now)))
+        (asked_for (after_progress (options_in (map string_bytes arguments.now)))) (exit_status result)
         (R.remaining input.old) (R.remaining input.new)
         (W.contents output.old) (W.contents output.new) (E.contents errors.old) (E.contents errors.new) }
 {
-    let (limits, options) = limits_in(arguments);
+    let (limits, words) = limits_in(arguments);
+    let (progress, options) = progress_in(words);
     match asked_by(options) {
         Some(asked) => {
-            let program = Program {
+            let program = SummaryProgram {
                 alloc,
                 limits,
-                printer: FiguresOf { asked },
+                progress,
+                summarizer: FiguresOf { asked },
             };
             program.run_to_exit(input, output, errors)
         }

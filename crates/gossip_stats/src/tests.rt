@@ -8,6 +8,7 @@ use std::test::*;
 mod groups;
 mod named;
 mod options;
+mod progress;
 mod reach;
 mod two_subscribers;
 mod worked;

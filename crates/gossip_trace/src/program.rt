@@ -79,6 +79,7 @@ where
             let program = Program {
                 alloc,
                 limits,
+                progress: false,
                 printer: TraceOf { wanted },
             };
             program.run_to_exit(input, output, errors)

@@ -12,14 +12,14 @@ use Rattle.gs_report.specs.Seen.{added}
 use Rattle.gs_counts.specs.declared.counting.Counting.{Counting}
 use Rattle.gs_counts.specs.declared.happening.Happening.{Happening}
 use Rattle.gs_counts.specs.declared.tables.Tables.{Tables}
-use Rattle.gs_counts.specs.declared.traces.Seat.{Seat}
-use Rattle.gs_counts.specs.Counting.{AreSeats, HasCounted, IfSeated, chosen_numbers, if_seated, seen_happenings, seen_sizes}
+use Rattle.gs_counts.specs.declared.traces.PeerCounter.{PeerCounter}
+use Rattle.gs_counts.specs.Counting.{AreCounters, HasCounted, IfCounted, chosen_numbers, if_counted, seen_happenings, seen_sizes}
 use Rattle.gs_counts.specs.Reading.{later_happenings, later_sizes}
 use Rattle.gs_counts.specs.Runs.{trace_happenings, trace_sizes}
 use Rattle.gs_counts.specs.Standing.{MeshSize, Shows}
 use Rattle.gs_counts.proofs.Moving.{all_grown}
 use Rattle.gs_counts.proofs.Reading.{happenings_later, sizes_later}
-use Rattle.gs_counts.proofs.Seating.{goes_on, is_it, seats_more, seats_same, stays_so}
+use Rattle.gs_counts.proofs.Counters.{counters_more, counters_same, goes_on, is_it, stays_so}
 use Rattle.gs_counts.proofs.Shown.{shown_turned, sizes_turned}
 
 module _ (plan : Plan) (of : Chosen) (p : PeerNo) (es : List Entry) (before after : PeerNo → Entries) (is : (q : PeerNo) → after q ≡ added before p es q) where
@@ -48,28 +48,28 @@ module _ (plan : Plan) (of : Chosen) (p : PeerNo) (es : List Entry) (before afte
       (λ q. trace_sizes (before q)) (λ q. trace_sizes (after q)) (λ q apart. ap trace_sizes (stays_so p es before after is q apart)) sizes_on (length plan.peers) all
 
   module _ (counting : Counting) (has : HasCounted plan of counting before) where
-    -- nobody sits there
-    pub counted_same : slice_get counting.seats.items p.0 ≡ None → HasCounted plan of counting after
+    -- no counter is there
+    pub counted_same : slice_get counting.counters.items p.0 ≡ None → HasCounted plan of counting after
     counted_same none = record {
-      seats = seats_same p es before after is plan of (length plan.peers) counting.seats.items has.seats none;
-      shows = shows_on counting.tables false (ap (λ (found : Option (Option Seat)). is_some (elim found [ None ↦ None | Some seat ↦ seat ])) (sym none) ∙ has.seats.seated p)
+      counters = counters_same p es before after is plan of (length plan.peers) counting.counters.items has.counters none;
+      shows = shows_on counting.tables false (ap (λ (found : Option (Option PeerCounter)). is_some (elim found [ None ↦ None | Some counter ↦ counter ])) (sym none) ∙ has.counters.chosen p)
           (subst (λ (xs : List Happening). Shows plan counting.tables xs (seen_sizes plan of before ++ [])) (sym (append-nil (seen_happenings plan of before)))
           (subst (λ (xs : List MeshSize). Shows plan counting.tables (seen_happenings plan of before) xs) (sym (append-nil (seen_sizes plan of before))) has.shows));
     }
 
-    -- the one who sits there, if anybody does, sees more
-    pub counted_more : (next : Counting) (o new : Option Seat)
-        → slice_get counting.seats.items p.0 ≡ Some o
-        → next.seats.items ≡ set counting.seats.items p.0 new
+    -- the counter that is there, if there is one, sees more
+    pub counted_more : (next : Counting) (o new : Option PeerCounter)
+        → slice_get counting.counters.items p.0 ≡ Some o
+        → next.counters.items ≡ set counting.counters.items p.0 new
         → is_some new ≡ is_some o
-        → (IfSeated plan p (before p) o → IfSeated plan p (reverse es ++ before p) new)
-        → ((hs : List Happening) (sizes : List MeshSize) → IfSeated plan p (before p) o → Shows plan counting.tables hs sizes → Shows plan next.tables (hs ++ if_seated o (later_happenings plan p (before p) es)) (sizes ++ if_seated o (later_sizes (before p) es)))
+        → (IfCounted plan p (before p) o → IfCounted plan p (reverse es ++ before p) new)
+        → ((hs : List Happening) (sizes : List MeshSize) → IfCounted plan p (before p) o → Shows plan counting.tables hs sizes → Shows plan next.tables (hs ++ if_counted o (later_happenings plan p (before p) es)) (sizes ++ if_counted o (later_sizes (before p) es)))
         → HasCounted plan of next after
     counted_more next o new here put as_before sees shows = record {
-      seats = subst (λ (seats : List (Option Seat)). AreSeats (length plan.peers) plan of seats after) (sym put)
-          (seats_more p es before after is plan of (length plan.peers) counting.seats.items has.seats o new here as_before sees);
-      shows = shows_on next.tables (is_some o) (ap (λ (found : Option (Option Seat)). is_some (elim found [ None ↦ None | Some seat ↦ seat ])) (sym here) ∙ has.seats.seated p)
-          (shows (seen_happenings plan of before) (seen_sizes plan of before) (subst (IfSeated plan p (before p)) (ap (λ (found : Option (Option Seat)). elim found [ None ↦ None | Some seat ↦ seat ]) here) (has.seats.seen p)) has.shows);
+      counters = subst (λ (counters : List (Option PeerCounter)). AreCounters (length plan.peers) plan of counters after) (sym put)
+          (counters_more p es before after is plan of (length plan.peers) counting.counters.items has.counters o new here as_before sees);
+      shows = shows_on next.tables (is_some o) (ap (λ (found : Option (Option PeerCounter)). is_some (elim found [ None ↦ None | Some counter ↦ counter ])) (sym here) ∙ has.counters.chosen p)
+          (shows (seen_happenings plan of before) (seen_sizes plan of before) (subst (IfCounted plan p (before p)) (ap (λ (found : Option (Option PeerCounter)). elim found [ None ↦ None | Some counter ↦ counter ]) here) (has.counters.seen p)) has.shows);
     }
 
 -- ---- before anything happens

@@ -17,9 +17,9 @@ use Rattle.gs_report.specs.declared.remains.Remains.{Remains}
 use Rattle.gs_seats.specs.Rounds.{peer_no}
 use Rattle.gs_counts.specs.declared.happening.Happening.{Happening}
 use Rattle.gs_counts.specs.declared.tables.Tables.{Tables}
-use Rattle.gs_counts.specs.declared.traces.Seat.{Seat}
+use Rattle.gs_counts.specs.declared.traces.PeerCounter.{PeerCounter}
 use Rattle.gs_counts.specs.Changes.{refusal_happenings}
-use Rattle.gs_counts.specs.Counting.{AreSeats, left_happenings, seat_of, seated_refusals, seen_happenings, seen_sizes}
+use Rattle.gs_counts.specs.Counting.{AreCounters, counted_refusals, counter_of, left_happenings, seen_happenings, seen_sizes}
 use Rattle.gs_counts.specs.Runs.{chosen_peers, happenings, mesh_sizes, trace_happenings, trace_sizes}
 use Rattle.gs_counts.specs.Standing.{MeshSize, Shows}
 use Rattle.gs_counts.proofs.Moving.{side_by_side}
@@ -62,28 +62,28 @@ refused_by x = flat_map (refusal_happenings x.0) x.1.refused
 abbrev as_left : PeerNo × Finished → PeerNo × Remains
 as_left x = (x.0, remains_of x.1)
 
-module _ (plan : Plan) (of : Chosen) (traces : PeerNo → Entries) (seats : List (Option Seat)) (are : AreSeats (length plan.peers) plan of seats traces) where
-  one_left : (x : PeerNo × Finished) (peers : List (PeerNo × Finished)) → seated_refusals seats (map as_left peers) ≡ flat_map refused_by (chosen_peers of peers) → (b : Bool)
-      → flat_map left_happenings (if b then as_left x ∷ filter (λ (y : PeerNo × Remains). is_some (seat_of seats y.0)) (map as_left peers) else filter (λ (y : PeerNo × Remains). is_some (seat_of seats y.0)) (map as_left peers))
+module _ (plan : Plan) (of : Chosen) (traces : PeerNo → Entries) (counters : List (Option PeerCounter)) (are : AreCounters (length plan.peers) plan of counters traces) where
+  one_left : (x : PeerNo × Finished) (peers : List (PeerNo × Finished)) → counted_refusals counters (map as_left peers) ≡ flat_map refused_by (chosen_peers of peers) → (b : Bool)
+      → flat_map left_happenings (if b then as_left x ∷ filter (λ (y : PeerNo × Remains). is_some (counter_of counters y.0)) (map as_left peers) else filter (λ (y : PeerNo × Remains). is_some (counter_of counters y.0)) (map as_left peers))
       ≡ flat_map refused_by (if b then x ∷ chosen_peers of peers else chosen_peers of peers)
   one_left x peers rest true = ap (λ (xs : List Happening). refused_by x ++ xs) rest
   one_left x peers rest false = rest
 
-  seated_is_chosen : (p : PeerNo) → p.0 < length plan.peers → is_some (seat_of seats p) ≡ is_chosen of p
-  seated_is_chosen p low =
+  counter_is_chosen : (p : PeerNo) → p.0 < length plan.peers → is_some (counter_of counters p) ≡ is_chosen of p
+  counter_is_chosen p low =
       let below : nat_lt p.0 (length plan.peers) ≡ true = grind (arith, nat_tests) in
-      are.seated p ∙ ap (λ (b : Bool). b && is_chosen of p) below
+      are.chosen p ∙ ap (λ (b : Bool). b && is_chosen of p) below
 
-  all_left : (peers : List (PeerNo × Finished)) → AllByRecursion (λ (x : PeerNo × Finished). x.0.0 < length plan.peers) peers → seated_refusals seats (map as_left peers) ≡ flat_map refused_by (chosen_peers of peers)
+  all_left : (peers : List (PeerNo × Finished)) → AllByRecursion (λ (x : PeerNo × Finished). x.0.0 < length plan.peers) peers → counted_refusals counters (map as_left peers) ≡ flat_map refused_by (chosen_peers of peers)
   all_left [] below = refl
   all_left (x ∷ peers) below =
-      ap (λ (b : Bool). flat_map left_happenings (if b then as_left x ∷ filter (λ (y : PeerNo × Remains). is_some (seat_of seats y.0)) (map as_left peers) else filter (λ (y : PeerNo × Remains). is_some (seat_of seats y.0)) (map as_left peers))) (seated_is_chosen x.0 below.0)
+      ap (λ (b : Bool). flat_map left_happenings (if b then as_left x ∷ filter (λ (y : PeerNo × Remains). is_some (counter_of counters y.0)) (map as_left peers) else filter (λ (y : PeerNo × Remains). is_some (counter_of counters y.0)) (map as_left peers))) (counter_is_chosen x.0 below.0)
       ∙ one_left x peers (all_left peers below.1) (is_chosen of x.0)
 
   pub left_shown : (peers : List (PeerNo × Finished)) (remains : List (PeerNo × Remains)) (tables : Tables)
       → AreLives (length plan.peers) traces peers
       → map (λ x. (x.0, remains_of x.1)) peers ≡ remains
-      → Shows plan tables (seen_happenings plan of traces ++ seated_refusals seats remains) (seen_sizes plan of traces)
+      → Shows plan tables (seen_happenings plan of traces ++ counted_refusals counters remains) (seen_sizes plan of traces)
       → Shows plan tables (happenings plan (chosen_peers of peers)) (mesh_sizes (chosen_peers of peers))
   left_shown peers remains tables lives is shows =
       let below = of_pairs (λ (p : PeerNo). p.0 < length plan.peers) peers (subst (AllByRecursion (λ (p : PeerNo). p.0 < length plan.peers)) (sym lives.numbers) (all_below 0 (length plan.peers) (length plan.peers) (omega arith))) in
@@ -91,30 +91,27 @@ module _ (plan : Plan) (of : Chosen) (traces : PeerNo → Entries) (seats : List
       ap (of_numbers of traces (trace_happenings plan)) (sym lives.numbers) ∙ by_lives of traces (trace_happenings plan) peers lives.same in
       let sized : seen_sizes plan of traces ≡ mesh_sizes (chosen_peers of peers) =
       ap (of_numbers of traces (λ (p : PeerNo) (L : Entries). trace_sizes L)) (sym lives.numbers) ∙ by_lives of traces (λ (p : PeerNo) (L : Entries). trace_sizes L) peers lives.same in
-      let refused : seated_refusals seats remains ≡ flat_map refused_by (chosen_peers of peers) =
-      ap (seated_refusals seats) (sym is) ∙ all_left peers below in
+      let refused : counted_refusals counters remains ≡ flat_map refused_by (chosen_peers of peers) =
+      ap (counted_refusals counters) (sym is) ∙ all_left peers below in
       let apart = subst (λ (xs : List Happening). Shows plan tables xs (mesh_sizes (chosen_peers of peers))) (ap₂ (λ (xs ys : List Happening). xs ++ ys) traced refused)
-      (subst (λ (xs : List MeshSize). Shows plan tables (seen_happenings plan of traces ++ seated_refusals seats remains) xs) sized shows) in
+      (subst (λ (xs : List MeshSize). Shows plan tables (seen_happenings plan of traces ++ counted_refusals counters remains) xs) sized shows) in
       side_by_side (λ hs. Shows plan tables hs (mesh_sizes (chosen_peers of peers))) (shown_turned plan tables (mesh_sizes (chosen_peers of peers)))
       (λ (x : PeerNo × Finished). trace_happenings plan x.0 x.1.trace) refused_by [] (chosen_peers of peers) apart
 
 -- ---- peer by peer
 
-abbrev sits : List (Option Seat) → PeerNo × Remains → Bool
-sits seats y = is_some (seat_of seats y.0)
+abbrev has_counter : List (Option PeerCounter) → PeerNo × Remains → Bool
+has_counter counters y = is_some (counter_of counters y.0)
 
-pub one_refused : (seats : List (Option Seat)) (x : PeerNo × Remains) → is_some (seat_of seats x.0) ≡ true → left_happenings x ≡ seated_refusals seats (x ∷ [])
-one_refused seats x is =
+pub one_refused : (counters : List (Option PeerCounter)) (x : PeerNo × Remains) → is_some (counter_of counters x.0) ≡ true → left_happenings x ≡ counted_refusals counters (x ∷ [])
+one_refused counters x is =
     sym (append-nil (left_happenings x))
     ∙ ap (λ (b : Bool). flat_map left_happenings (if b then x ∷ [] else [])) (sym is)
 
-pub none_refused : (seats : List (Option Seat)) (x : PeerNo × Remains) → is_some (seat_of seats x.0) ≡ false → [] ≡ seated_refusals seats (x ∷ [])
-none_refused seats x is = ap (λ (b : Bool). flat_map left_happenings (if b then x ∷ [] else [])) (sym is)
-
-pub refusals_more : (seats : List (Option Seat)) (hs : List Happening) (xs : List (PeerNo × Remains)) (i : ℕ) (x : PeerNo × Remains) → i < length xs → x ≡ get_or xs i x → (hs ++ seated_refusals seats (take i xs)) ++ seated_refusals seats (x ∷ []) ≡ hs ++ seated_refusals seats (take (i + 1) xs)
-refusals_more seats hs xs i x below is =
-    append_assoc hs (seated_refusals seats (take i xs)) (seated_refusals seats (x ∷ []))
+pub refusals_more : (counters : List (Option PeerCounter)) (hs : List Happening) (xs : List (PeerNo × Remains)) (i : ℕ) (x : PeerNo × Remains) → i < length xs → x ≡ get_or xs i x → (hs ++ counted_refusals counters (take i xs)) ++ counted_refusals counters (x ∷ []) ≡ hs ++ counted_refusals counters (take (i + 1) xs)
+refusals_more counters hs xs i x below is =
+    append_assoc hs (counted_refusals counters (take i xs)) (counted_refusals counters (x ∷ []))
     ∙ ap (λ (ys : List Happening). hs ++ ys)
-    (sym (flat_map-append left_happenings (filter (sits seats) (take i xs)) (filter (sits seats) (x ∷ [])))
-    ∙ ap (flat_map left_happenings) (sym (filter-append (sits seats) (take i xs) (x ∷ [])))
-    ∙ ap (seated_refusals seats) (ap (λ (y : PeerNo × Remains). take i xs ++ y ∷ []) is ∙ sym (take_more xs i x below)))
+    (sym (flat_map-append left_happenings (filter (has_counter counters) (take i xs)) (filter (has_counter counters) (x ∷ [])))
+    ∙ ap (flat_map left_happenings) (sym (filter-append (has_counter counters) (take i xs) (x ∷ [])))
+    ∙ ap (counted_refusals counters) (ap (λ (y : PeerNo × Remains). take i xs ++ y ∷ []) is ∙ sym (take_more xs i x below)))

@@ -18,7 +18,7 @@ mod Reading
 mod Moving
 mod Spans
 mod Shown
-mod Seating
+mod Counters
 mod GoingOn
 mod Left
 mod Listing

@@ -1,7 +1,6 @@
 -- Rows of tables in their order.
 use Rattle.std.proofs.Common.{◌≡◌, ◌<◌, ℕ, zero, suc, ◌+◌, List, [], ◌∷◌, ◌++◌, get_or, length, map, take, refl, sym, ap, ap₂, ◌∙◌, append-nil, append_assoc, arith, add-one, zero-add}
 use Rattle.std.specs.List.{AllByRecursion, flat_map, range_with_len}
-use Rattle.std.proofs.lemmas.Grind.{flat_map-append}
 use Rattle.std.proofs.lemmas.List.{map-append, take_more}
 use Rattle.std.proofs.lemmas.List.FromFn.{get_or-map-range_with_len, length-map-range_with_len, map-range_with_len_more}
 use Rattle.gs_base.specs.declared.names.PeerNo.{PeerNo}
@@ -27,12 +26,6 @@ pub all_at : {A : Type 0} (P : A → Type 0) (xs : List A) (i : ℕ) (d : A) →
 all_at P [] i d h low = absurd (omega (arith, low))
 all_at P (x ∷ xs) zero d h low = h.0
 all_at P (x ∷ xs) (suc i) d h low = all_at P xs i d h.1 (omega (arith, low))
-
-pub flat_more : {A B : Type 0} (f : A → List B) (xs : List A) (i : ℕ) (x : A) → i < length xs → x ≡ get_or xs i x → flat_map f (take i xs) ++ f x ≡ flat_map f (take (i + 1) xs)
-flat_more f xs i x below is =
-    ap (λ ys. flat_map f (take i xs) ++ ys) (sym (append-nil (f x)))
-    ∙ sym (flat_map-append f (take i xs) (x ∷ []))
-    ∙ ap (flat_map f) (ap (λ y. take i xs ++ y ∷ []) is ∙ sym (take_more xs i x below))
 
 -- ---- by number
 

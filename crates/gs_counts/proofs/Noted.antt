@@ -73,9 +73,6 @@ none_on t (h ∷ hs) none = by (list_any (same_topic t) (option_to_list h.topic)
     by false false true same is clash rest = absurd cc
     by false false false same is clash rest = rest is
 
-row_if_any : Bool → Counts → Option Counts
-row_if_any any row = if any then Some row else None
-
 pub topic_more : (t : Topic) (hs : List Happening) (h : Happening) → row_on (hs ++ h ∷ []) t ≡ (if is_on t h.topic then Some (counted (unwrap_or (row_on hs t) no_counts) h.kind h.amount) else row_on hs t)
 topic_more t hs h = by (list_any (same_topic t) (topics_in hs)) refl (is_on t h.topic) refl
   where

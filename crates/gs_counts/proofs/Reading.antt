@@ -1,22 +1,17 @@
 -- Entries that are seen one after the other.
-use Rattle.std.proofs.Common.{◌≡◌, ◌<◌, ◌≤◌, ◌+◌, ℕ, zero, suc, Bool, true, if◌then◌else◌, List, [], ◌∷◌, ◌++◌, get_or, length, reverse, take, refl, sym, ap, subst, ◌∙◌, arith, append-nil, append_assoc}
-use Rattle.std.proofs.lemmas.Grind.{flat_map-append}
+use Rattle.std.proofs.Common.{◌≡◌, ◌<◌, ◌≤◌, ◌+◌, ℕ, zero, suc, List, [], ◌∷◌, ◌++◌, get_or, length, reverse, take, refl, sym, ap, subst, ◌∙◌, arith, append-nil, append_assoc}
 use Rattle.std.proofs.lemmas.List.{reverse-append, take_more}
-use Rattle.std.proofs.lemmas.List.Elements.{filter-append}
 use Rattle.gs_base.specs.declared.names.PeerNo.{PeerNo}
 use Rattle.gs_plan.specs.declared.plan.Plan.{Plan}
 use Rattle.gs_rules.specs.declared.trace.Entry.{Entry}
 use Rattle.gs_rules.specs.Tables.{Entries, last_moment}
-use Rattle.gs_reach.specs.Chosen.{is_chosen}
-use Rattle.gs_reach.specs.declared.chosen.Chosen.{Chosen}
-use Rattle.gs_report.specs.declared.finished.Finished.{Finished}
 use Rattle.gs_router.specs.Following.{AreInOrder}
 use Rattle.gs_router.proofs.Following.{order_before}
 use Rattle.gs_counts.specs.declared.happening.Happening.{Happening}
 use Rattle.gs_counts.specs.declared.tables.Tables.{Tables}
-use Rattle.gs_counts.specs.declared.traces.Seat.{Seat}
-use Rattle.gs_counts.specs.Reading.{AreLater, HasSeen, ShowsLater, later, later_happenings, later_sizes}
-use Rattle.gs_counts.specs.Runs.{chosen_peers, entry_happenings, entry_sizes, happenings, mesh_sizes, peer_happenings, trace_happenings, trace_sizes}
+use Rattle.gs_counts.specs.declared.traces.PeerCounter.{PeerCounter}
+use Rattle.gs_counts.specs.Reading.{AreLater, IsCounterAfter, ShowsLater, later, later_happenings, later_sizes}
+use Rattle.gs_counts.specs.Runs.{entry_happenings, entry_sizes, trace_happenings, trace_sizes}
 use Rattle.gs_counts.specs.Standing.{MeshSize, Shows}
 
 -- ---- a trace, the newest entry first, and further entries, the oldest first
@@ -49,8 +44,8 @@ later_at (e ∷ es) L zero d are below = are.0
 later_at (e ∷ es) L (suc i) d are below =
     subst (λ (K : Entries). last_moment K ≤ (get_or es i d).at.0) (sym (next_first e (take i es) L)) (later_at es (e ∷ L) i d are.1 (omega (arith, below)))
 
--- two traces that one seat has seen end at one moment
-pub in_order : {plan other : Plan} {p q : PeerNo} {seat : Seat} {K L : Entries} {n : ℕ} → HasSeen plan p seat K → HasSeen other q seat L → last_moment K ≤ n → last_moment L ≤ n
+-- two traces that one counter has seen end at one moment
+pub in_order : {plan other : Plan} {p q : PeerNo} {counter : PeerCounter} {K L : Entries} {n : ℕ} → IsCounterAfter plan p counter K → IsCounterAfter other q counter L → last_moment K ≤ n → last_moment L ≤ n
 in_order first second low =
     let one = first.last in
     let two = second.last in
@@ -105,40 +100,3 @@ module _ (plan : Plan) (p : PeerNo) where
   shown_so_far {old} L = λ hs sizes was.
       subst (λ (xs : List Happening). Shows plan old xs (sizes ++ [])) (sym (append-nil hs))
       (subst (λ (xs : List MeshSize). Shows plan old hs xs) (sym (append-nil sizes)) was)
-
-  -- all entries of a trace are further ones after the empty trace
-  pub shown_whole : {old new : Tables} (es : List Entry) (L : Entries) → reverse es ≡ L → ShowsLater plan p old new [] es → (hs : List Happening) (sizes : List MeshSize) → Shows plan old hs sizes → Shows plan new (hs ++ trace_happenings plan p L) (sizes ++ trace_sizes L)
-  shown_whole {new = new} es L is shows = λ hs sizes was.
-      subst (λ (K : Entries). Shows plan new (hs ++ trace_happenings plan p K) (sizes ++ trace_sizes K)) (append-nil (reverse es) ∙ is)
-      (subst (λ (xs : List Happening). Shows plan new (hs ++ xs) (sizes ++ trace_sizes (reverse es ++ []))) (sym (happenings_later es []))
-      (subst (λ (xs : List MeshSize). Shows plan new (hs ++ later_happenings plan p [] es) (sizes ++ xs)) (sym (sizes_later es []))
-      (shows hs sizes was)))
-
-pub order_whole : (es : List Entry) (L : Entries) → reverse es ≡ L → AreInOrder L → AreLater 0 es
-order_whole es L is order = order_later es [] (subst AreInOrder (sym (append-nil (reverse es) ∙ is)) order)
-
--- ---- peers that are chosen
-
-chosen_more : (of : Chosen) (xs : List (PeerNo × Finished)) (i : ℕ) (x : PeerNo × Finished) → i < length xs → x ≡ get_or xs i x → chosen_peers of (take (i + 1) xs) ≡ chosen_peers of (take i xs) ++ chosen_peers of (x ∷ [])
-chosen_more of xs i x below is =
-    ap (chosen_peers of) (take_more xs i x below ∙ ap (λ (y : PeerNo × Finished). take i xs ++ y ∷ []) (sym is))
-    ∙ filter-append (λ (y : PeerNo × Finished). is_chosen of y.0) (take i xs) (x ∷ [])
-
-pub happenings_more : (plan : Plan) (of : Chosen) (xs : List (PeerNo × Finished)) (i : ℕ) (x : PeerNo × Finished) → i < length xs → x ≡ get_or xs i x → happenings plan (chosen_peers of (take i xs)) ++ happenings plan (chosen_peers of (x ∷ [])) ≡ happenings plan (chosen_peers of (take (i + 1) xs))
-happenings_more plan of xs i x below is =
-    sym (flat_map-append (peer_happenings plan) (chosen_peers of (take i xs)) (chosen_peers of (x ∷ [])))
-    ∙ ap (happenings plan) (sym (chosen_more of xs i x below is))
-
-pub sizes_more : (plan : Plan) (of : Chosen) (xs : List (PeerNo × Finished)) (i : ℕ) (x : PeerNo × Finished) → i < length xs → x ≡ get_or xs i x → mesh_sizes (chosen_peers of (take i xs)) ++ mesh_sizes (chosen_peers of (x ∷ [])) ≡ mesh_sizes (chosen_peers of (take (i + 1) xs))
-sizes_more plan of xs i x below is =
-    sym (flat_map-append (λ (y : PeerNo × Finished). trace_sizes y.1.trace) (chosen_peers of (take i xs)) (chosen_peers of (x ∷ [])))
-    ∙ ap mesh_sizes (sym (chosen_more of xs i x below is))
-
--- a peer that is chosen, by itself
-pub chosen_one : (plan : Plan) (of : Chosen) (x : PeerNo × Finished) (tables : Tables) (hs : List Happening) (sizes : List MeshSize) → is_chosen of x.0 ≡ true
-    → Shows plan tables (hs ++ peer_happenings plan x) (sizes ++ trace_sizes x.1.trace)
-    → Shows plan tables (hs ++ happenings plan (chosen_peers of (x ∷ []))) (sizes ++ mesh_sizes (chosen_peers of (x ∷ [])))
-chosen_one plan of x tables hs sizes is shows =
-    subst (λ (b : Bool). Shows plan tables (hs ++ happenings plan (if b then x ∷ [] else [])) (sizes ++ mesh_sizes (if b then x ∷ [] else []))) (sym is)
-    (subst (λ (xs : List Happening). Shows plan tables (hs ++ xs) (sizes ++ mesh_sizes (x ∷ []))) (sym (append-nil (peer_happenings plan x)))
-    (subst (λ (xs : List MeshSize). Shows plan tables (hs ++ peer_happenings plan x) (sizes ++ xs)) (sym (append-nil (trace_sizes x.1.trace))) shows))

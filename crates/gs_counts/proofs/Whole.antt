@@ -29,10 +29,6 @@ below_all key a (suc n) low =
     sum_by-cons (equals key) a (range_with_len (a + 1) n)
     ∙ ap₂ (λ (b : Bool) (m : ℕ). one_if b + m) (apart key a low) (below_all key (a + 1) n (omega (arith, low)))
 
-one_at_most : (b : Bool) → one_if b ≤ 1
-one_at_most true = omega arith
-one_at_most false = omega arith
-
 pub number_once : (key a n : ℕ) → sum_by (equals key) (range_with_len a n) ≤ 1
 number_once key a zero = omega arith
 number_once key a (suc n) = by (nat_eq key a) refl (number_once key (a + 1) n)

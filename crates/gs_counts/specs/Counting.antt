@@ -10,32 +10,32 @@ use Rattle.gs_report.specs.declared.remains.Remains.{Remains}
 use Rattle.gs_seats.specs.Rounds.{numbers}
 use Rattle.gs_counts.specs.declared.counting.Counting.{Counting}
 use Rattle.gs_counts.specs.declared.happening.Happening.{Happening}
-use Rattle.gs_counts.specs.declared.traces.Seat.{Seat}
+use Rattle.gs_counts.specs.declared.traces.PeerCounter.{PeerCounter}
 use Rattle.gs_counts.specs.Changes.{refusal_happenings}
-use Rattle.gs_counts.specs.Reading.{HasSeen}
+use Rattle.gs_counts.specs.Reading.{IsCounterAfter}
 use Rattle.gs_counts.specs.Runs.{trace_happenings, trace_sizes}
 use Rattle.gs_counts.specs.Standing.{MeshSize, Shows}
 
--- ---- states by number
+-- ---- counters by number
 
--- the state of a peer, if it has one
-abbrev pub seat_of : List (Option Seat) → PeerNo → Option Seat
-seat_of seats p = elim (slice_get seats p.0) [ None ↦ None | Some seat ↦ seat ]
+-- the counter of a peer, if it has one
+abbrev pub counter_of : List (Option PeerCounter) → PeerNo → Option PeerCounter
+counter_of counters p = elim (slice_get counters p.0) [ None ↦ None | Some counter ↦ counter ]
 
--- the state has seen a trace of a peer, if there is a state
-abbrev pub IfSeated : Plan → PeerNo → Entries → Option Seat → Type 0
-IfSeated plan p L seat = IfSome seat (λ s. HasSeen plan p s L)
+-- the counter has seen a trace of a peer, if there is a counter
+abbrev pub IfCounted : Plan → PeerNo → Entries → Option PeerCounter → Type 0
+IfCounted plan p L counter = IfSome counter (λ c. IsCounterAfter plan p c L)
 
--- this, if there is a state
-abbrev pub if_seated : {A : Type 0} → Option Seat → List A → List A
-if_seated seat xs = if is_some seat then xs else []
+-- this, if there is a counter
+abbrev pub if_counted : {A : Type 0} → Option PeerCounter → List A → List A
+if_counted counter xs = if is_some counter then xs else []
 
--- Of this many peers each chosen one has a state, and no other peer has one. The states have seen these traces.
-pub record AreSeats (count : ℕ) (plan : Plan) (of : Chosen) (seats : List (Option Seat))
+-- Of this many peers each chosen one has a counter, and no other peer has one. The counters have seen these traces.
+pub record AreCounters (count : ℕ) (plan : Plan) (of : Chosen) (counters : List (Option PeerCounter))
     (traces : PeerNo → Entries) : Type 0 where
-  pub many : length seats ≡ count
-  pub seated : (p : PeerNo) → is_some (seat_of seats p) ≡ (nat_lt p.0 count && is_chosen of p)
-  pub seen : (p : PeerNo) → IfSeated plan p (traces p) (seat_of seats p)
+  pub many : length counters ≡ count
+  pub chosen : (p : PeerNo) → is_some (counter_of counters p) ≡ (nat_lt p.0 count && is_chosen of p)
+  pub seen : (p : PeerNo) → IfCounted plan p (traces p) (counter_of counters p)
 
 -- ---- what happened so far
 
@@ -52,7 +52,7 @@ seen_sizes plan of traces = flat_map (λ p. trace_sizes (traces p)) (chosen_numb
 
 -- The counts are those of the chosen peers of a plan, as far as these traces go.
 pub record HasCounted (plan : Plan) (of : Chosen) (counting : Counting) (traces : PeerNo → Entries) : Type 0 where
-  pub seats : AreSeats (length plan.peers) plan of counting.seats.items traces
+  pub counters : AreCounters (length plan.peers) plan of counting.counters.items traces
   pub shows : Shows plan counting.tables (seen_happenings plan of traces) (seen_sizes plan of traces)
 
 -- ---- what a run leaves
@@ -61,7 +61,7 @@ pub record HasCounted (plan : Plan) (of : Chosen) (counting : Counting) (traces 
 abbrev pub left_happenings : PeerNo × Remains → List Happening
 left_happenings x = flat_map (refusal_happenings x.0) x.1.refused
 
--- those that the peers with a state refused
-abbrev pub seated_refusals : List (Option Seat) → List (PeerNo × Remains) → List Happening
-seated_refusals seats remains =
-    flat_map left_happenings (filter (λ (x : PeerNo × Remains). is_some (seat_of seats x.0)) remains)
+-- those that the peers with a counter refused
+abbrev pub counted_refusals : List (Option PeerCounter) → List (PeerNo × Remains) → List Happening
+counted_refusals counters remains =
+    flat_map left_happenings (filter (λ (x : PeerNo × Remains). is_some (counter_of counters x.0)) remains)

@@ -9,7 +9,7 @@ use Rattle.gs_seats.specs.Rounds.{neighbours, peer_in}
 use Rattle.gs_counts.specs.declared.happening.Happening.{Happening}
 use Rattle.gs_counts.specs.declared.tables.Tables.{Tables}
 use Rattle.gs_counts.specs.declared.traces.Notes.{Notes}
-use Rattle.gs_counts.specs.declared.traces.Seat.{Seat}
+use Rattle.gs_counts.specs.declared.traces.PeerCounter.{PeerCounter}
 use Rattle.gs_counts.specs.Lanes.{lane_of}
 use Rattle.gs_counts.specs.Memories.{Remembers}
 use Rattle.gs_counts.specs.Runs.{entry_happenings, entry_sizes}
@@ -21,11 +21,11 @@ pub record IsNoted (plan : Plan) (p : PeerNo) (notes : Notes) (L : Entries) : Ty
   pub memory : Remembers notes.memory L
   pub lanes : notes.lanes.items ≡ map (lane_of L) (neighbours plan p)
 
--- The state of a peer of the plan has seen a trace.
-pub record HasSeen (plan : Plan) (p : PeerNo) (seat : Seat) (L : Entries) : Type 0 where
-  pub known : IsNoted plan p seat.notes L
-  pub watches : Watches seat.watcher (peer_in plan p) L
-  pub last : seat.last.0 ≡ last_moment L
+-- This is the counter of a peer of the plan, after a trace.
+pub record IsCounterAfter (plan : Plan) (p : PeerNo) (counter : PeerCounter) (L : Entries) : Type 0 where
+  pub known : IsNoted plan p counter.notes L
+  pub watches : Watches counter.watcher (peer_in plan p) L
+  pub last : counter.last.0 ≡ last_moment L
 
 -- ---- further entries, the oldest first
 

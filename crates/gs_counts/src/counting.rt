@@ -9,8 +9,9 @@ ghost use Rattle.gs_report.specs.Seen.{AreLives, added, remains_of};
 ghost use Rattle.gs_report.specs.declared.report.Report.{Report as ReportValue};
 ghost use Rattle.gs_router.specs.Following.{AreInOrder};
 ghost use Rattle.gs_rules.specs.Tables.{Entries, last_moment};
+ghost use Rattle.gs_seats.specs.Own.{AreNeighbourhoods};
 ghost use Rattle.gs_counts.specs.declared.happening.Happening.{Happening as HappeningValue};
-ghost use Rattle.gs_counts.specs.Counting.{AreSeats, HasCounted, IfSeated, if_seated, seat_of, seated_refusals};
+ghost use Rattle.gs_counts.specs.Counting.{AreCounters, HasCounted, IfCounted, counted_refusals, counter_of, if_counted};
 ghost use Rattle.gs_counts.specs.Reading.{AreLater, later_happenings, later_sizes};
 ghost use Rattle.gs_counts.specs.Runs.{run_counts};
 ghost use Rattle.gs_counts.specs.Standing.{MeshSize, Shows};
@@ -19,19 +20,20 @@ ghost use Rattle.gs_counts.specs.Topics.{subscribed};
 use crate::happening::Happening;
 use crate::run::{RunCounts, rows_of};
 use crate::tables::Tables;
-use crate::traces::{Seat, note_refused};
+use crate::traces::{PeerCounter, note_refused};
 use gs_base::{PeerNo, Topic};
 use gs_plan::Plan;
 use gs_reach::Chosen;
 use gs_report::Remains;
 use gs_rules::StoredEntry;
+use gs_seats::Neighbourhoods;
 use std::alloc::{AllocError, Global};
 
 /// What happened in a run so far, according to the traces of the chosen peers. It keeps no trace.
 #[derive(Drop)]
 pub struct Counting {
-    /// A state for each chosen peer of the plan, and none for each other one, by number.
-    seats: Vec<Option<Seat>>,
+    /// A counter for each chosen peer of the plan, and none for each other one, by number.
+    counters: Vec<Option<PeerCounter>>,
     tables: Tables,
     /// It is used again for what happens at each entry.
     list: Vec<Happening>,
@@ -46,10 +48,11 @@ impl Counting {
         requires { IsInRange plan.now }
         ensures { IfOk result (λ counting. HasCounted plan.now of.now counting (λ p. [])) }
     {
+        let neighbourhoods = Neighbourhoods::of(alloc, plan)?;
         let tables = Tables::new(alloc, plan)?;
-        let seats = seats_of(alloc, plan, of)?;
+        let counters = counters_of(alloc, plan, &neighbourhoods, of)?;
         Ok(Counting {
-            seats,
+            counters,
             tables,
             list: Vec::new(alloc),
         })
@@ -67,8 +70,8 @@ impl Counting {
             → HasCounted plan of self.old before
             → HasCounted plan of self.new after) }
     {
-        match self.seats.get_mut(usize::from(peer.0)) {
-            Some(seat) => see_at(seat, &mut self.tables, &mut self.list, entries),
+        match self.counters.get_mut(usize::from(peer.0)) {
+            Some(counter) => see_at(counter, &mut self.tables, &mut self.list, entries),
             None => Ok(()),
         }
     }
@@ -81,8 +84,8 @@ impl Counting {
             → is_chosen of peer ≡ true
             → result.now ≡ subscribed (traces peer) }
     {
-        match seat_of(&self.seats, peer) {
-            Some(seat) => seat.topics(),
+        match counter_of(&self.counters, peer) {
+            Some(counter) => counter.topics(),
             None => &[],
         }
     }
@@ -106,112 +109,120 @@ impl Counting {
             → counts ≡ run_counts plan.now report of) }
     {
         let Counting {
-            seats,
+            counters,
             mut tables,
             mut list,
         } = self;
-        note_remains(&mut tables, &mut list, &seats, remains)?;
+        note_remains(&mut tables, &mut list, &counters, remains)?;
         let counts = rows_of(alloc, plan, &tables)?;
         Ok(counts)
     }
 }
 
-/// The states of the chosen peers before they did anything.
-fn seats_of(alloc: Global, plan: &Plan, of: &Chosen) -> Result<Vec<Option<Seat>>, AllocError>
-    requires { IsInRange plan.now }
-    ensures { IfOk result (λ seats. AreSeats (length plan.now.peers) plan.now of.now seats.items (λ p. [])) }
-{
-    let count = plan.peers.len() as u16;
-    let mut seats = Vec::new(alloc);
-    for number in 0..count {
-        seats.push(seat_if(alloc, plan, of, PeerNo(number))?)?;
-    }
-    Ok(seats)
-}
-
-/// The state of a peer that did nothing yet, if the peer is chosen.
-fn seat_if(
+/// The counters of the chosen peers before they did anything.
+fn counters_of(
     alloc: Global,
     plan: &Plan,
+    neighbourhoods: &Neighbourhoods,
+    of: &Chosen,
+) -> Result<Vec<Option<PeerCounter>>, AllocError>
+    requires range { IsInRange plan.now }
+    requires sorted { AreNeighbourhoods plan.now neighbourhoods.now }
+    ensures { IfOk result (λ counters. AreCounters (length plan.now.peers) plan.now of.now counters.items (λ p. [])) }
+{
+    let count = plan.peers.len() as u16;
+    let mut counters = Vec::new(alloc);
+    for number in 0..count {
+        counters.push(counter_if(alloc, plan, neighbourhoods, of, PeerNo(number))?)?;
+    }
+    Ok(counters)
+}
+
+/// The counter of a peer that did nothing yet, if the peer is chosen.
+fn counter_if(
+    alloc: Global,
+    plan: &Plan,
+    neighbourhoods: &Neighbourhoods,
     of: &Chosen,
     peer: PeerNo,
-) -> Result<Option<Seat>, AllocError>
-    requires { IsInRange plan.now }
-    ensures seated { IfOk result (λ seat. is_some seat ≡ is_chosen of.now peer) }
-    ensures seen { IfOk result (λ seat. IfSeated plan.now peer [] seat) }
+) -> Result<Option<PeerCounter>, AllocError>
+    requires range { IsInRange plan.now }
+    requires sorted { AreNeighbourhoods plan.now neighbourhoods.now }
+    ensures chosen { IfOk result (λ counter. is_some counter ≡ is_chosen of.now peer) }
+    ensures seen { IfOk result (λ counter. IfCounted plan.now peer [] counter) }
 {
     if !of.contains(peer) {
         return Ok(None);
     }
-    let seat = Seat::new(alloc, plan, peer)?;
-    Ok(Some(seat))
+    let counter = PeerCounter::new(alloc, plan, neighbourhoods, peer)?;
+    Ok(Some(counter))
 }
 
-/// The state of a peer, if it has one.
-fn seat_of(seats: &[Option<Seat>], peer: PeerNo) -> Option<&Seat>
-    ensures { option_copied result ≡ seat_of seats.now peer }
+/// The counter of a peer, if it has one.
+fn counter_of(counters: &[Option<PeerCounter>], peer: PeerNo) -> Option<&PeerCounter>
+    ensures { option_copied result ≡ counter_of counters.now peer }
 {
-    match seats.get(usize::from(peer.0)) {
-        Some(seat) => seat.as_ref(),
+    match counters.get(usize::from(peer.0)) {
+        Some(counter) => counter.as_ref(),
         None => None,
     }
 }
 
-/// Notes what the next entries of a peer say, if it has a state.
+/// Notes what the next entries of a peer say, if it has a counter.
 fn see_at(
-    seat: &mut Option<Seat>,
+    counter: &mut Option<PeerCounter>,
     tables: &mut Tables,
     list: &mut Vec<Happening>,
     entries: &[StoredEntry],
 ) -> Result<(), AllocError>
     requires { (plan : PlanValue) × (p : PeerNoValue) × (L : Entries)
-        × IfSeated plan p L seat.old × AreLater (last_moment L) entries.now }
-    ensures seated { OnOk result (is_some seat.new ≡ is_some seat.old) }
+        × IfCounted plan p L counter.old × AreLater (last_moment L) entries.now }
+    ensures chosen { OnOk result (is_some counter.new ≡ is_some counter.old) }
     ensures seen { OnOk result ((plan : PlanValue) (p : PeerNoValue) (L : Entries)
-        → IfSeated plan p L seat.old
-        → IfSeated plan p (reverse entries.now ++ L) seat.new) }
+        → IfCounted plan p L counter.old
+        → IfCounted plan p (reverse entries.now ++ L) counter.new) }
     ensures tables { OnOk result ((plan : PlanValue) (p : PeerNoValue) (L : Entries)
         (hs : List HappeningValue) (sizes : List MeshSize)
-        → IfSeated plan p L seat.old
+        → IfCounted plan p L counter.old
         → Shows plan tables.old hs sizes
-        → Shows plan tables.new (hs ++ if_seated seat.old (later_happenings plan p L entries.now))
-        (sizes ++ if_seated seat.old (later_sizes L entries.now))) }
+        → Shows plan tables.new (hs ++ if_counted counter.old (later_happenings plan p L entries.now))
+        (sizes ++ if_counted counter.old (later_sizes L entries.now))) }
 {
-    match seat {
-        Some(seat) => seat.see(tables, list, entries),
+    match counter {
+        Some(counter) => counter.see(tables, list, entries),
         None => Ok(()),
     }
 }
 
-/// Notes what a run leaves of its peers, as far as they have a state.
+/// Notes what a run leaves of its peers, as far as they have a counter.
 fn note_remains(
     tables: &mut Tables,
     list: &mut Vec<Happening>,
-    seats: &[Option<Seat>],
+    counters: &[Option<PeerCounter>],
     remains: &[(PeerNo, Remains)],
 ) -> Result<(), AllocError>
     ensures { OnOk result ((plan : PlanValue) (hs : List HappeningValue) (sizes : List MeshSize)
         → Shows plan tables.old hs sizes
-        → Shows plan tables.new (hs ++ seated_refusals seats.now remains.now) sizes) }
+        → Shows plan tables.new (hs ++ counted_refusals counters.now remains.now) sizes) }
 {
     for left in remains {
-        note_left(tables, list, seats, left)?;
+        note_left(tables, list, counters, left)?;
     }
     Ok(())
 }
 
-/// Notes what a run leaves of a peer, if it has a state.
+/// Notes what a run leaves of a peer, if it has a counter.
 fn note_left(
     tables: &mut Tables,
     list: &mut Vec<Happening>,
-    seats: &[Option<Seat>],
+    counters: &[Option<PeerCounter>],
     left: &(PeerNo, Remains),
 ) -> Result<(), AllocError>
     ensures { OnOk result ((plan : PlanValue) (hs : List HappeningValue) (sizes : List MeshSize)
         → Shows plan tables.old hs sizes
-        → Shows plan tables.new (hs ++ seated_refusals seats.now (left.now ∷ [])) sizes) }
+        → Shows plan tables.new (hs ++ counted_refusals counters.now (left.now ∷ [])) sizes) }
 {
-    if seat_of(seats, left.0).is_none() {
+    if counter_of(counters, left.0).is_none() {
         return Ok(());
     }
     note_refused(tables, list, left.0, left.1.refused.as_slice())

@@ -38,8 +38,6 @@ pub use laws::{
     rows_of_rounds_make_up_the_whole, rows_of_topics_make_up_the_whole,
     subscribed_topics_are_joined,
 };
-pub use run::{
-    LinkCounts, PeerCounts, RoundCounts, RunCounts, TopicCounts, over_links, run_counts,
-};
+pub use run::{LinkCounts, PeerCounts, RoundCounts, RunCounts, TopicCounts};
 pub use said::{all_of_a_legal_trace_counts, bytes_that_are_counted_are_said};
 pub use span::Span;

@@ -1,30 +1,23 @@
 //! What happened in a run, by peer, by link, by topic, by round and in all.
 ghost use Rattle.std.specs.Prelude.{◌≡◌, ◌++◌, ◌∷◌, [], ℕ, IfOk, length, List, map, OnOk, Option};
-ghost use Rattle.std.specs.List.{AllByRecursion};
 ghost use Rattle.gs_base.specs.Names.{peers_of};
-ghost use Rattle.gs_base.specs.declared.names.PeerNo.{PeerNo as PeerNoValue};
 ghost use Rattle.gs_base.specs.declared.names.Topic.{Topic as TopicValue};
 ghost use Rattle.gs_plan.specs.Plans.{IsInRange};
-ghost use Rattle.gs_report.specs.declared.finished.Finished.{Finished as FinishedValue};
-ghost use Rattle.gs_router.specs.Following.{AreInOrder};
 ghost use Rattle.gs_rules.specs.Tables.{ascending};
+ghost use Rattle.gs_seats.specs.Own.{AreNeighbourhoods};
 ghost use Rattle.gs_counts.specs.declared.counts.Counts.{Counts as CountsValue};
 ghost use Rattle.gs_counts.specs.declared.happening.Happening.{Happening as HappeningValue};
 ghost use Rattle.gs_counts.specs.declared.span.Span.{Span as SpanValue};
-ghost use Rattle.gs_counts.specs.Listing.{all_links, by_number, links_by, links_to, over_links, peer_row, round_row, with_links};
-ghost use Rattle.gs_counts.specs.Runs.{chosen_peers, counts_of, happenings, mesh_sizes, run_counts, topic_counts};
+ghost use Rattle.gs_counts.specs.Listing.{all_links, by_number, links_by, peer_row, round_row};
+ghost use Rattle.gs_counts.specs.Runs.{counts_of, topic_counts};
 ghost use Rattle.gs_counts.specs.Standing.{MeshSize, Shows, link_row, row_on, topic_row, topics_in};
 
 use crate::counts::Counts;
-use crate::kind::Kind;
 use crate::span::Span;
 use crate::tables::{LinkRows, Tables, row_over};
-use crate::traces::note_peer;
 use gs_base::{Neighbour, PeerNo, Seq, Topic, clone_of};
 use gs_plan::Plan;
-use gs_reach::Chosen;
-use gs_report::{Finished, Report};
-use gs_seats::neighbours_of;
+use gs_seats::Neighbourhoods;
 use std::alloc::{AllocError, Global};
 use std::collections::BTreeMap;
 
@@ -75,66 +68,6 @@ pub struct RunCounts {
     pub all: Counts,
 }
 
-/// Returns what happened in a run of a plan, according to the traces of the peers in `of`. The tables still have a row for
-/// each peer and each link of the plan. In each trace no entry may be earlier than the one before it.
-///
-/// # Errors
-/// `AllocError` when out of memory.
-pub fn run_counts(
-    alloc: Global,
-    plan: &Plan,
-    report: &Report,
-    of: &Chosen,
-) -> Result<RunCounts, AllocError>
-    requires range { IsInRange plan.now }
-    requires order { AllByRecursion (λ (x : PeerNoValue × FinishedValue). AreInOrder x.1.trace) report.now.peers.items }
-    ensures { IfOk result (λ counts. counts ≡ run_counts plan.now report.now of.now) }
-{
-    let tables = tables_of(alloc, plan, &report.peers, of)?;
-    let counts = rows_of(alloc, plan, &tables)?;
-    Ok(counts)
-}
-
-/// The tables of the traces of these peers, as far as they are chosen.
-fn tables_of(
-    alloc: Global,
-    plan: &Plan,
-    peers: &[(PeerNo, Finished)],
-    of: &Chosen,
-) -> Result<Tables, AllocError>
-    requires range { IsInRange plan.now }
-    requires order { AllByRecursion (λ (x : PeerNoValue × FinishedValue). AreInOrder x.1.trace) peers.now }
-    ensures { IfOk result (λ tables. Shows plan.now tables (happenings plan.now (chosen_peers of.now peers.now))
-        (mesh_sizes (chosen_peers of.now peers.now))) }
-{
-    let mut tables = Tables::new(alloc, plan)?;
-    for peer in peers {
-        note_chosen(alloc, plan, &mut tables, of, peer)?;
-    }
-    Ok(tables)
-}
-
-/// Notes everything that happened at a peer, if the peer is chosen.
-fn note_chosen(
-    alloc: Global,
-    plan: &Plan,
-    tables: &mut Tables,
-    of: &Chosen,
-    peer: &(PeerNo, Finished),
-) -> Result<(), AllocError>
-    requires range { IsInRange plan.now }
-    requires order { AreInOrder peer.now.1.trace }
-    ensures { OnOk result ((hs : List HappeningValue) (sizes : List MeshSize)
-        → Shows plan.now tables.old hs sizes
-        → Shows plan.now tables.new (hs ++ happenings plan.now (chosen_peers of.now (peer.now ∷ [])))
-        (sizes ++ mesh_sizes (chosen_peers of.now (peer.now ∷ [])))) }
-{
-    if !of.contains(peer.0) {
-        return Ok(());
-    }
-    note_peer(alloc, plan, tables, peer)
-}
-
 /// The rows of these tables.
 pub(crate) fn rows_of(alloc: Global, plan: &Plan, tables: &Tables) -> Result<RunCounts, AllocError>
     requires range { IsInRange plan.now }
@@ -177,11 +110,27 @@ fn link_rows(alloc: Global, plan: &Plan, rows: &LinkRows) -> Result<Seq<LinkCoun
     requires { IsInRange plan.now }
     ensures { IfOk result (λ links. links ≡ all_links plan.now (link_row rows.now)) }
 {
+    let neighbourhoods = Neighbourhoods::of(alloc, plan)?;
+    let links = links_among(alloc, plan, &neighbourhoods, rows)?;
+    Ok(links)
+}
+
+/// The rows of the links between these neighbours.
+fn links_among(
+    alloc: Global,
+    plan: &Plan,
+    neighbourhoods: &Neighbourhoods,
+    rows: &LinkRows,
+) -> Result<Seq<LinkCounts>, AllocError>
+    requires range { IsInRange plan.now }
+    requires sorted { AreNeighbourhoods plan.now neighbourhoods.now }
+    ensures { IfOk result (λ links. links ≡ all_links plan.now (link_row rows.now)) }
+{
     let count = plan.peers.len() as u16;
     let mut links = Seq::new(alloc);
     for number in 0..count {
         let from = PeerNo(number);
-        let neighbours = neighbours_of(alloc, plan, from)?;
+        let neighbours = neighbourhoods.neighbours(alloc, plan, from)?;
         list_links(&mut links, &neighbours, from, rows)?;
     }
     Ok(links)
@@ -254,26 +203,4 @@ fn round_rows(
         })?;
     }
     Ok(rounds)
-}
-
-/// Returns how often a kind went over the links in `links` that lead to a peer, or how much of it. A number above the
-/// largest `u64` is given as the largest.
-pub fn over_links(links: &[LinkCounts], to: PeerNo, kind: Kind) -> u64
-    ensures { result ≡ over_links links.now to kind }
-{
-    let mut sum: u64 = 0;
-    for link in links {
-        sum = with_link(sum, link, to, kind);
-    }
-    sum
-}
-
-/// A sum with what went over a link added, if the link leads to a peer.
-fn with_link(sum: u64, link: &LinkCounts, to: PeerNo, kind: Kind) -> u64
-    ensures { result ≡ with_links kind sum (links_to to (link.now ∷ [])) }
-{
-    if link.to != to {
-        return sum;
-    }
-    sum.saturating_add(link.counts.of(kind))
 }

@@ -5,17 +5,17 @@ ghost use Rattle.gs_base.specs.Names.{peers_of};
 ghost use Rattle.gs_base.specs.declared.names.PeerNo.{PeerNo as PeerNoValue};
 ghost use Rattle.gs_plan.specs.Plans.{IsInRange};
 ghost use Rattle.gs_plan.specs.declared.plan.Plan.{Plan as PlanValue};
-ghost use Rattle.gs_router.specs.Following.{AreInOrder};
 ghost use Rattle.gs_rules.specs.Events.{of_round_end};
 ghost use Rattle.gs_rules.specs.FellAway.{fell_away};
 ghost use Rattle.gs_rules.specs.Tables.{Entries, last_moment};
+ghost use Rattle.gs_seats.specs.Own.{AreNeighbourhoods};
 ghost use Rattle.gs_seats.specs.Rounds.{neighbours, peer_in};
 ghost use Rattle.gs_counts.specs.declared.happening.Happening.{Happening as HappeningValue};
 ghost use Rattle.gs_counts.specs.Changes.{refusal_happenings};
 ghost use Rattle.gs_counts.specs.Fates.{known_fate};
 ghost use Rattle.gs_counts.specs.Lanes.{new_lane};
-ghost use Rattle.gs_counts.specs.Reading.{AreLater, HasSeen, IsNoted, ShowsLater};
-ghost use Rattle.gs_counts.specs.Runs.{done_happenings, entry_happenings, entry_sizes, known_sizes, peer_happenings, sizes_of, trace_happenings, trace_sizes};
+ghost use Rattle.gs_counts.specs.Reading.{AreLater, IsCounterAfter, IsNoted, ShowsLater};
+ghost use Rattle.gs_counts.specs.Runs.{done_happenings, entry_happenings, entry_sizes, known_sizes, sizes_of};
 ghost use Rattle.gs_counts.specs.Standing.{MeshSize, Shows};
 ghost use Rattle.gs_counts.specs.Topics.{subscribed};
 
@@ -29,15 +29,14 @@ use crate::sent::{is_answer, note_sends};
 use crate::tables::Tables;
 use gs_base::{Millis, Neighbour, PeerNo, Topic};
 use gs_plan::Plan;
-use gs_report::Finished;
 use gs_router::Watcher;
 use gs_rules::{Event, Fallen, RefusedLine, StoredEntry};
-use gs_seats::{neighbours_of, watcher_of};
+use gs_seats::{Neighbourhoods, watcher_among};
 use std::alloc::{AllocError, Global};
 
-/// A peer whose entries are seen.
+/// It counts what a peer does, entry by entry.
 #[derive(Drop)]
-pub(crate) struct Seat {
+pub(crate) struct PeerCounter {
     notes: Notes,
     /// It says what came to nothing at each entry.
     watcher: Watcher,
@@ -51,44 +50,6 @@ struct Notes {
     peer: PeerNo,
     memory: Memory,
     lanes: Vec<Lane>,
-}
-
-/// Notes everything that happened at a peer.
-pub(crate) fn note_peer(
-    alloc: Global,
-    plan: &Plan,
-    tables: &mut Tables,
-    peer: &(PeerNo, Finished),
-) -> Result<(), AllocError>
-    requires range { IsInRange plan.now }
-    requires order { AreInOrder peer.now.1.trace }
-    ensures { OnOk result ((hs : List HappeningValue) (sizes : List MeshSize)
-        → Shows plan.now tables.old hs sizes
-        → Shows plan.now tables.new (hs ++ peer_happenings plan.now peer.now) (sizes ++ trace_sizes peer.now.1.trace)) }
-{
-    let (number, life) = peer;
-    let mut list = Vec::new(alloc);
-    note_trace(alloc, plan, tables, &mut list, peer)?;
-    note_refused(tables, &mut list, *number, life.refused.as_slice())
-}
-
-/// Notes what the entries of its trace say.
-fn note_trace(
-    alloc: Global,
-    plan: &Plan,
-    tables: &mut Tables,
-    list: &mut Vec<Happening>,
-    peer: &(PeerNo, Finished),
-) -> Result<(), AllocError>
-    requires range { IsInRange plan.now }
-    requires order { AreInOrder peer.now.1.trace }
-    ensures { OnOk result ((hs : List HappeningValue) (sizes : List MeshSize)
-        → Shows plan.now tables.old hs sizes
-        → Shows plan.now tables.new (hs ++ trace_happenings plan.now peer.now.0 peer.now.1.trace)
-        (sizes ++ trace_sizes peer.now.1.trace)) }
-{
-    let mut seat = Seat::new(alloc, plan, peer.0)?;
-    seat.see(tables, list, peer.1.trace.entries())
 }
 
 /// Notes the lines of the script that a peer refused.
@@ -107,15 +68,21 @@ pub(crate) fn note_refused(
     tables.note_all(list)
 }
 
-impl Seat {
-    /// The state of a peer that has done nothing.
-    pub(crate) fn new(alloc: Global, plan: &Plan, peer: PeerNo) -> Result<Seat, AllocError>
-        requires { IsInRange plan.now }
-        ensures { IfOk result (λ seat. HasSeen plan.now peer seat []) }
+impl PeerCounter {
+    /// The counter of a peer that has done nothing.
+    pub(crate) fn new(
+        alloc: Global,
+        plan: &Plan,
+        neighbourhoods: &Neighbourhoods,
+        peer: PeerNo,
+    ) -> Result<PeerCounter, AllocError>
+        requires range { IsInRange plan.now }
+        requires sorted { AreNeighbourhoods plan.now neighbourhoods.now }
+        ensures { IfOk result (λ counter. IsCounterAfter plan.now peer counter []) }
     {
-        let watcher = watcher_of(alloc, plan, peer)?;
-        let notes = Notes::new(alloc, plan, peer)?;
-        Ok(Seat {
+        let watcher = watcher_among(alloc, plan, neighbourhoods, peer)?;
+        let notes = Notes::new(alloc, plan, neighbourhoods, peer)?;
+        Ok(PeerCounter {
             notes,
             watcher,
             last: Millis(0),
@@ -125,7 +92,7 @@ impl Seat {
     /// The topics that the peer is subscribed to.
     pub(crate) fn topics(&self) -> &[Topic]
         ensures { (plan : PlanValue) (p : PeerNoValue) (L : Entries)
-            → HasSeen plan p self.now L → result.now ≡ subscribed L }
+            → IsCounterAfter plan p self.now L → result.now ≡ subscribed L }
     {
         &self.notes.memory.meshes.topics
     }
@@ -138,12 +105,12 @@ impl Seat {
         entries: &[StoredEntry],
     ) -> Result<(), AllocError>
         requires { (plan : PlanValue) × (p : PeerNoValue) × (L : Entries)
-            × HasSeen plan p self.old L × AreLater (last_moment L) entries.now }
-        ensures seat { OnOk result ((plan : PlanValue) (p : PeerNoValue) (L : Entries)
-            → HasSeen plan p self.old L
-            → HasSeen plan p self.new (reverse entries.now ++ L)) }
+            × IsCounterAfter plan p self.old L × AreLater (last_moment L) entries.now }
+        ensures counter { OnOk result ((plan : PlanValue) (p : PeerNoValue) (L : Entries)
+            → IsCounterAfter plan p self.old L
+            → IsCounterAfter plan p self.new (reverse entries.now ++ L)) }
         ensures tables { OnOk result ((plan : PlanValue) (p : PeerNoValue) (L : Entries)
-            → HasSeen plan p self.old L
+            → IsCounterAfter plan p self.old L
             → ShowsLater plan p tables.old tables.new L entries.now) }
     {
         for entry in entries {
@@ -160,12 +127,12 @@ impl Seat {
         entry: &StoredEntry,
     ) -> Result<(), AllocError>
         requires { (plan : PlanValue) × (p : PeerNoValue) × (L : Entries)
-            × HasSeen plan p self.old L × (last_moment L ≤ entry.now.at.0) }
-        ensures seat { OnOk result ((plan : PlanValue) (p : PeerNoValue) (L : Entries)
-            → HasSeen plan p self.old L
-            → HasSeen plan p self.new (entry.now ∷ L)) }
+            × IsCounterAfter plan p self.old L × (last_moment L ≤ entry.now.at.0) }
+        ensures counter { OnOk result ((plan : PlanValue) (p : PeerNoValue) (L : Entries)
+            → IsCounterAfter plan p self.old L
+            → IsCounterAfter plan p self.new (entry.now ∷ L)) }
         ensures tables { OnOk result ((plan : PlanValue) (p : PeerNoValue) (L : Entries)
-            → HasSeen plan p self.old L
+            → IsCounterAfter plan p self.old L
             → ShowsLater plan p tables.old tables.new L (entry.now ∷ [])) }
     {
         let fallen = self.watcher.see(entry)?;
@@ -244,11 +211,17 @@ fn ends_round(event: &Event) -> bool
 
 impl Notes {
     /// What is known before the first entry.
-    fn new(alloc: Global, plan: &Plan, peer: PeerNo) -> Result<Notes, AllocError>
-        requires { IsInRange plan.now }
+    fn new(
+        alloc: Global,
+        plan: &Plan,
+        neighbourhoods: &Neighbourhoods,
+        peer: PeerNo,
+    ) -> Result<Notes, AllocError>
+        requires range { IsInRange plan.now }
+        requires sorted { AreNeighbourhoods plan.now neighbourhoods.now }
         ensures { IfOk result (λ notes. IsNoted plan.now peer notes []) }
     {
-        let lanes = lanes_of(alloc, plan, peer)?;
+        let lanes = lanes_of(alloc, plan, neighbourhoods, peer)?;
         Ok(Notes {
             peer,
             memory: Memory::new(alloc),
@@ -303,11 +276,17 @@ fn list_done(
 }
 
 /// The lanes to the neighbours of a peer, ascending.
-fn lanes_of(alloc: Global, plan: &Plan, peer: PeerNo) -> Result<Vec<Lane>, AllocError>
-    requires { IsInRange plan.now }
+fn lanes_of(
+    alloc: Global,
+    plan: &Plan,
+    neighbourhoods: &Neighbourhoods,
+    peer: PeerNo,
+) -> Result<Vec<Lane>, AllocError>
+    requires range { IsInRange plan.now }
+    requires sorted { AreNeighbourhoods plan.now neighbourhoods.now }
     ensures { IfOk result (λ lanes. lanes.items ≡ map new_lane (neighbours plan.now peer)) }
 {
-    let neighbours = neighbours_of(alloc, plan, peer)?;
+    let neighbours = neighbourhoods.neighbours(alloc, plan, peer)?;
     let lanes = lanes_to(alloc, &neighbours)?;
     Ok(lanes)
 }

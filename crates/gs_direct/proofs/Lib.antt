@@ -9,6 +9,7 @@ pub mod Closing
 pub mod Carrying
 pub mod Loops
 pub mod Observing
+pub mod Staging
 pub mod Times
 pub mod Telling
 pub mod Pairs

@@ -146,9 +146,9 @@ lives_from all a (x ∷ xs) numbers stand =
       lives_from all (a + 1) xs (ap later_numbers numbers) (λ k. stand (suc k) ∙ ap (slice_get all) (omega arith)),
     )
 
--- What a run leaves, with what was seen of it, is a report.
-pub seen_report : (saw : (PeerNo → Entries) → Type 0) (plan : Plan) (remains : Vec (PeerNo × Remains) Global) (lives : List (PeerNo × Finished)) → map (λ (x : PeerNo × Finished). x.0) lives ≡ numbers plan → IsRun plan (map (λ (x : PeerNo × Finished). x.1) lives) → HasSeen saw (trace_of (map (λ (x : PeerNo × Finished). x.1) lives)) → remains.items ≡ map (λ (x : PeerNo × Finished). (x.0, remains_of x.1)) lives → (report : Report) × IsReport plan report × HasSeenReport saw plan report × (remains.items ≡ map (λ (x : PeerNo × Finished). (x.0, remains_of x.1)) report.peers.items)
-seen_report saw plan remains lives by_number run seen are = (
+-- What a run leaves, with what was seen of it, is a report. What holds of the lives holds of those in the report.
+pub seen_report : (saw : (PeerNo → Entries) → Type 0) (holds : List Finished → Type 0) (plan : Plan) (remains : Vec (PeerNo × Remains) Global) (lives : List (PeerNo × Finished)) → map (λ (x : PeerNo × Finished). x.0) lives ≡ numbers plan → IsRun plan (map (λ (x : PeerNo × Finished). x.1) lives) → HasSeen saw (trace_of (map (λ (x : PeerNo × Finished). x.1) lives)) → remains.items ≡ map (λ (x : PeerNo × Finished). (x.0, remains_of x.1)) lives → holds (map (λ (x : PeerNo × Finished). x.1) lives) → (report : Report) × IsReport plan report × HasSeenReport saw plan report × (remains.items ≡ map (λ (x : PeerNo × Finished). (x.0, remains_of x.1)) report.peers.items) × holds (map (λ (x : PeerNo × Finished). x.1) report.peers.items)
+seen_report saw holds plan remains lives by_number run seen are held = (
   record { peers = peers; settled = 2 * length plan.dials },
   record { numbers_are = by_number; run = run; settled = refl },
   record {
@@ -160,6 +160,7 @@ seen_report saw plan remains lives by_number run seen are = (
     };
   },
   are,
+  held,
 )
   where
     all : List Finished

@@ -3,3 +3,4 @@ pub mod Observing
 pub mod Outlets
 pub mod Peers
 pub mod Runs
+pub mod Stages

@@ -9,5 +9,7 @@ mod outlets;
 mod peer;
 mod post;
 mod run;
+mod stages;
 
 pub use run::{run_direct, run_observed};
+pub use stages::{Gauge, NoGauge, Stage};

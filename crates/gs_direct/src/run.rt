@@ -1,5 +1,5 @@
 //! All peers of a run.
-ghost use Rattle.std.specs.Prelude.{◌≡◌, ◌≤◌, [], suc, false, List, IfErr, IfOk, OnOk, length, map};
+ghost use Rattle.std.specs.Prelude.{◌≡◌, ◌≤◌, [], suc, false, List, IfErr, IfOk, OnErr, OnOk, length, map};
 ghost use Rattle.std.specs.List.{AllByRecursion, AllZip};
 ghost use Rattle.gs_base.specs.declared.names.PeerNo.{PeerNo as PeerNoValue};
 ghost use Rattle.gs_plan.specs.Plans.{IsInRange};
@@ -15,9 +15,12 @@ ghost use Rattle.gs_seats.specs.Rounds.{IsRun, numbers, peer_no, seat_in, trace_
 ghost use Rattle.gs_direct.specs.Observing.{HasSeen, HasSeenReport, HaveGrown};
 ghost use Rattle.gs_direct.specs.Peers.{IsNewPeer};
 ghost use Rattle.gs_direct.specs.Runs.{AreAt, HaveClosed, HaveEnded, IsRoomFor, numbered, trace_at};
+ghost use Rattle.gs_direct.specs.Stages.{AreStages, HasShownAll, HasShownLives, Shows};
+ghost use Rattle.gs_direct.specs.declared.stages.Stage.{Stage as StageValue};
 
 use crate::peer::Peer;
 use crate::post::Post;
+use crate::stages::{Gauge, Stage, delivered_by_now};
 use gs_base::{Millis, PeerNo};
 use gs_plan::Plan;
 use gs_report::{Finished, Remains, Report};
@@ -27,16 +30,20 @@ use std::alloc::{AllocError, Global};
 
 /// Runs the peers of a plan on this thread, without links. In each round, one peer after the other hears what its neighbours
 /// said in the round before, and does what it has to do. It has no handle to wait for a thread, so the prover shows that it
-/// ends, and no clause says so. Each report of the plan has the text of this one (`a_plan_has_one_report`).
+/// ends, and no clause says so. Each report of the plan has the text of this one (`a_plan_has_one_report`). A gauge shows how
+/// far the run is, at the end of each round.
 ///
 /// # Errors
-/// `NoMemory` when out of memory. It names no peer, and the clause leaves that open.
-pub fn run_direct(alloc: Global, plan: &Plan) -> Result<Report, NetFault>
+/// `NoMemory` when out of memory. It names no peer, and the clause leaves that open. The gauge has shown some stages by then.
+pub fn run_direct<G: Gauge>(alloc: Global, plan: &Plan, gauge: &mut G) -> Result<Report, NetFault>
     requires { IsInRange plan.now }
     ensures report { IfOk result (IsReport plan.now) }
+    ensures shown { IfOk result (HasShownAll G.has_shown gauge.old gauge.new plan.now) }
     ensures memory { IfErr result (λ fault. number_of fault ≡ 24) }
+    ensures stopped { OnErr result ((stages : List StageValue)
+        × Shows G.has_shown gauge.old gauge.new stages) }
 {
-    match lives_of(alloc, plan) {
+    match lives_of(alloc, plan, gauge) {
         Ok(peers) => Ok(Report {
             peers,
             settled: 2 * plan.dials.len() as u64,
@@ -47,35 +54,40 @@ pub fn run_direct(alloc: Global, plan: &Plan) -> Result<Report, NetFault>
 
 /// Runs the peers of a plan as `run_direct` does. An observer sees all that they do, and no trace is kept. It has seen
 /// nothing before. What is returned is what the run leaves of each peer besides its trace, by number. There is a report of
-/// the plan that has just these traces and just this.
+/// the plan that has just these traces and just this. A gauge shows how far the run is, at the end of each round.
 ///
 /// # Errors
-/// `NoMemory` when out of memory. It names no peer, and the clause leaves that open.
-pub fn run_observed<O: Observer>(
+/// `NoMemory` when out of memory. It names no peer, and the clause leaves that open. The gauge has shown some stages by then.
+pub fn run_observed<O: Observer, G: Gauge>(
     alloc: Global,
     plan: &Plan,
     observer: &mut O,
+    gauge: &mut G,
 ) -> Result<Vec<(PeerNo, Remains)>, NetFault>
     requires range { IsInRange plan.now }
     requires new { O.saw observer.old (λ p. []) }
     ensures run { IfOk result (λ remains. (report : ReportValue)
         × IsReport plan.now report
         × HasSeenReport (O.saw observer.new) plan.now report
-        × (remains.items ≡ map (λ x. (x.0, remains_of x.1)) report.peers.items)) }
+        × (remains.items ≡ map (λ x. (x.0, remains_of x.1)) report.peers.items)
+        × HasShownAll G.has_shown gauge.old gauge.new plan.now report) }
     ensures question { OnOk result (O.question observer.new ≡ O.question observer.old) }
     ensures memory { IfErr result (λ fault. number_of fault ≡ 24) }
+    ensures stopped { OnErr result ((stages : List StageValue)
+        × Shows G.has_shown gauge.old gauge.new stages) }
 {
-    match remains_seen(alloc, plan, observer) {
+    match remains_seen(alloc, plan, observer, gauge) {
         Ok(remains) => Ok(remains),
         Err(_) => Err(NetFault::NoMemory(None)),
     }
 }
 
 /// Runs the peers before an observer, and returns what the run leaves of each besides its trace, by number.
-fn remains_seen<O: Observer>(
+fn remains_seen<O: Observer, G: Gauge>(
     alloc: Global,
     plan: &Plan,
     observer: &mut O,
+    gauge: &mut G,
 ) -> Result<Vec<(PeerNo, Remains)>, AllocError>
     requires range { IsInRange plan.now }
     requires new { O.saw observer.old (λ p. []) }
@@ -83,24 +95,35 @@ fn remains_seen<O: Observer>(
         × (map (λ x. x.0) lives ≡ numbers plan.now)
         × IsRun plan.now (map (λ x. x.1) lives)
         × HasSeen (O.saw observer.new) (trace_of (map (λ x. x.1) lives))
-        × (remains.items ≡ map (λ x. (x.0, remains_of x.1)) lives)) }
+        × (remains.items ≡ map (λ x. (x.0, remains_of x.1)) lives)
+        × HasShownLives G.has_shown gauge.old gauge.new plan.now (map (λ x. x.1) lives)) }
     ensures question { OnOk result (O.question observer.new ≡ O.question observer.old) }
+    ensures stopped { OnErr result ((stages : List StageValue)
+        × Shows G.has_shown gauge.old gauge.new stages) }
 {
     let mut peers = peers_of::<LastRound>(alloc, plan)?;
     let mut post = Post::new(alloc, plan.peers.len())?;
-    run_all(plan, &mut peers, &mut post, observer)?;
+    run_all(plan, &mut peers, &mut post, observer, gauge)?;
     remains_of_all(alloc, plan, peers)
 }
 
 /// Runs the peers, and returns what the run leaves of each, by number.
-fn lives_of(alloc: Global, plan: &Plan) -> Result<Vec<(PeerNo, Finished)>, AllocError>
+fn lives_of<G: Gauge>(
+    alloc: Global,
+    plan: &Plan,
+    gauge: &mut G,
+) -> Result<Vec<(PeerNo, Finished)>, AllocError>
     requires { IsInRange plan.now }
     ensures numbers { IfOk result (λ lives. map (λ x. x.0) lives.items ≡ numbers plan.now) }
     ensures run { IfOk result (λ lives. IsRun plan.now (map (λ x. x.1) lives.items)) }
+    ensures shown { IfOk result (λ lives.
+        HasShownLives G.has_shown gauge.old gauge.new plan.now (map (λ x. x.1) lives.items)) }
+    ensures stopped { OnErr result ((stages : List StageValue)
+        × Shows G.has_shown gauge.old gauge.new stages) }
 {
     let mut peers = peers_of::<WholeTrace>(alloc, plan)?;
     let mut post = Post::new(alloc, plan.peers.len())?;
-    run_all(plan, &mut peers, &mut post, &mut Nobody)?;
+    run_all(plan, &mut peers, &mut post, &mut Nobody, gauge)?;
     finish_all(alloc, plan, peers)
 }
 
@@ -122,12 +145,13 @@ fn peers_of<K: Retention>(alloc: Global, plan: &Plan) -> Result<Vec<Peer<K>>, Al
     Ok(peers)
 }
 
-/// Plays all rounds, and shuts all peers down. An observer sees all that they do.
-fn run_all<K: Retention, O: Observer>(
+/// Plays all rounds, and shuts all peers down. An observer sees all that they do, and a gauge shows the rounds.
+fn run_all<K: Retention, O: Observer, G: Gauge>(
     plan: &Plan,
     peers: &mut [Peer<K>],
     post: &mut Post,
     observer: &mut O,
+    gauge: &mut G,
 ) -> Result<(), AllocError>
     requires range { IsInRange plan.now }
     requires begun { AreAt plan.now 0 peers.old post.old.mail.items }
@@ -136,19 +160,24 @@ fn run_all<K: Retention, O: Observer>(
     ensures ended { OnOk result (HaveEnded plan.now peers.new) }
     ensures saw { OnOk result (HasSeen (O.saw observer.new) (trace_at peers.new)) }
     ensures question { OnOk result (O.question observer.new ≡ O.question observer.old) }
+    ensures shown { OnOk result ((stages : List StageValue) × Shows G.has_shown gauge.old gauge.new stages
+        × AreStages plan.now (trace_at peers.new) (suc plan.now.rounds) stages) }
+    ensures stopped { OnErr result ((stages : List StageValue)
+        × Shows G.has_shown gauge.old gauge.new stages) }
 {
-    play_all(plan, peers, post, observer)?;
+    play_all(plan, peers, post, observer, gauge)?;
     close_all(plan, peers, post)?;
     observe(plan, peers, observer)?;
     Ok(())
 }
 
-/// Plays all rounds, which an observer sees. After that, what was said in the last round is on its way.
-fn play_all<K: Retention, O: Observer>(
+/// Plays all rounds, which an observer sees and a gauge shows. After that, what was said in the last round is on its way.
+fn play_all<K: Retention, O: Observer, G: Gauge>(
     plan: &Plan,
     peers: &mut [Peer<K>],
     post: &mut Post,
     observer: &mut O,
+    gauge: &mut G,
 ) -> Result<(), AllocError>
     requires range { IsInRange plan.now }
     requires begun { AreAt plan.now 0 peers.old post.old.mail.items }
@@ -157,10 +186,17 @@ fn play_all<K: Retention, O: Observer>(
     ensures played { OnOk result (AreAt plan.now (suc plan.now.rounds) peers.new post.new.mail.items) }
     ensures saw { OnOk result (HasSeen (O.saw observer.new) (trace_at peers.new)) }
     ensures question { OnOk result (O.question observer.new ≡ O.question observer.old) }
+    ensures shown { OnOk result ((stages : List StageValue) × Shows G.has_shown gauge.old gauge.new stages
+        × AreStages plan.now (trace_at peers.new) (suc plan.now.rounds) stages) }
+    ensures stopped { OnErr result ((stages : List StageValue)
+        × Shows G.has_shown gauge.old gauge.new stages) }
 {
+    let mut deliveries = 0u64;
     for round in 0..plan.rounds + 1 {
         play_round(plan, peers, post, round)?;
         observe(plan, peers, observer)?;
+        deliveries = delivered_by_now(plan, peers, deliveries);
+        gauge.show(Stage { round, deliveries });
     }
     Ok(())
 }

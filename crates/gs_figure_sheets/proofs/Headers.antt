@@ -6,7 +6,9 @@ use Rattle.std.proofs.lemmas.List.{get_or-map, length-map}
 use Rattle.std.proofs.lemmas.List.FromFn.{fill_by_all}
 use Rattle.std.proofs.lemmas.Option.{slice_get-get_or}
 use Rattle.gs_counts.specs.Runs.{run_counts}
+use Rattle.gs_opinions.specs.Runs.{opinions_of}
 use Rattle.gs_plan.specs.declared.plan.Plan.{Plan}
+use Rattle.gs_base.specs.declared.names.PeerNo.{PeerNo}
 use Rattle.gs_reach.specs.declared.chosen.Chosen.{Chosen}
 use Rattle.gs_reach.specs.declared.chosen.Chosen.TheVariants.{Any}
 use Rattle.gs_reach.specs.declared.distribution.Distribution.{Distribution}
@@ -22,23 +24,22 @@ use Rattle.gs_figure_sheets.specs.declared.columns.Column.TheVariants.{Round}
 use Rattle.gs_figure_sheets.specs.declared.figure.Figure.TheVariants.{LowestOf}
 use Rattle.gs_figure_sheets.specs.declared.figures.Line.{Line}
 use Rattle.gs_figure_sheets.specs.declared.found.Found.{Found}
+use Rattle.gs_figure_sheets.specs.declared.inquiry.Inquiry.{Inquiry}
 use Rattle.gs_figure_sheets.specs.declared.party.Party.{Party}
 use Rattle.gs_figure_sheets.specs.declared.wanted.Layout.{Layout}
 use Rattle.gs_figure_sheets.specs.declared.wanted.Layout.TheVariants.{Person}
 use Rattle.gs_figure_sheets.specs.declared.wanted.Subject.{Subject}
 use Rattle.gs_figure_sheets.specs.declared.wanted.Subject.TheVariants.{Run, Rounds, Topics, Links}
 use Rattle.gs_figure_sheets.specs.Columns.{column_of, group_columns, limit_columns, message_columns, spread_columns}
-use Rattle.gs_figure_sheets.specs.Choices.{chosen_by}
-use Rattle.gs_figure_sheets.specs.FigureSheets.{dealt_in, found_of, lines_of_peers, lines_of_rounds, sheets_for, sheets_of, sheets_with}
+use Rattle.gs_figure_sheets.specs.FigureSheets.{dealt_in, found_of, lines_of_peers, sheets_for, sheets_of, sheets_with}
 use Rattle.gs_figure_sheets.specs.Figures.{figure_column, party_name}
 use Rattle.gs_figure_sheets.specs.Groups.{Dealt, group_pages, group_sheet}
-use Rattle.gs_figure_sheets.specs.Lines.{link_line, links_at, topic_line}
+use Rattle.gs_figure_sheets.specs.Lines.{link_line, links_at, round_line, topic_line}
 use Rattle.gs_figure_sheets.specs.Pages.{figure_pages, figure_sheet}
 use Rattle.gs_figure_sheets.specs.Parties.{GroupWish, parties_of}
 use Rattle.gs_figure_sheets.specs.Reach.{limit_sheet, message_sheet, sheets_among, spread_sheet}
 use Rattle.gs_figure_sheets.specs.Sections.{heard_figures, is_shown, nothing_figures, sent_figures, state_figures}
-use Rattle.gs_figure_sheets.specs.Shapes.{HasOwnHeaders, HaveOwnNames}
-use Rattle.gs_figure_sheets.specs.Wishes.{Wishes}
+use Rattle.gs_figure_sheets.specs.Shapes.{HasOwnHeaders}
 use Rattle.gs_figure_sheets.proofs.Shapes.{both, mapped}
 
 -- ---- truth values
@@ -197,35 +198,33 @@ as_laid_out : (layout : Layout) (subject : Subject) (parties : List Party) (line
 as_laid_out layout subject parties lines is own =
     subst (λ (l : Layout). AllByRecursion HasOwnHeaders (figure_pages l subject parties lines)) (sym is) own
 
-same_names : (plan : Plan) (report : Report) (among : Chosen) (groups : List GroupWish)
-    → map (λ (g : GroupWish). g.name) groups ≡ names_of (parties_of plan report among groups)
-same_names plan report among [] = refl
-same_names plan report among (g ∷ gs) = ap (λ names. g.name ∷ names) (same_names plan report among gs)
+pub same_names : (plan : Plan) (peers : List PeerNo) (among : Chosen) (groups : List GroupWish)
+    → map (λ (g : GroupWish). g.name) groups ≡ names_of (parties_of plan peers among groups)
+same_names plan peers among [] = refl
+same_names plan peers among (g ∷ gs) = ap (λ names. g.name ∷ names) (same_names plan peers among gs)
 
-run_sheets_own : (plan : Plan) (report : Report) (w : Wishes) (among : Chosen) (found : Found) → w.layout ≡ Person
-    → AllByRecursion HasOwnHeaders (sheets_with plan report w among found)
-run_sheets_own plan report w among found is =
-    let reach : List Sheet = sheets_among plan (chosen_by plan report w.by) among found.messages in
-    let lines : List Line = lines_of_peers plan report among found in
-    let peers : List Sheet = figure_pages w.layout Run found.parties lines in
-    both HasOwnHeaders (reach ++ peers) (group_pages (dealt_in report found) found.parties)
-    (both HasOwnHeaders reach peers (reach_own plan (chosen_by plan report w.by) among found.messages) (as_laid_out w.layout Run found.parties lines is (run_own found.parties lines)))
-    (group_pages_own (dealt_in report found) found.parties)
+run_sheets_own : (plan : Plan) (q : Inquiry) (found : Found) → q.layout ≡ Person
+    → AllByRecursion HasOwnHeaders (sheets_with plan q found)
+run_sheets_own plan q found is =
+    let reach : List Sheet = sheets_among plan q.by q.among found.messages in
+    let lines : List Line = lines_of_peers plan q found in
+    let peers : List Sheet = figure_pages q.layout Run q.parties lines in
+    both HasOwnHeaders (reach ++ peers) (group_pages (dealt_in found) q.parties)
+    (both HasOwnHeaders reach peers (reach_own plan q.by q.among found.messages) (as_laid_out q.layout Run q.parties lines is (run_own q.parties lines)))
+    (group_pages_own (dealt_in found) q.parties)
 
-by_subject : (subject : Subject) (plan : Plan) (report : Report) (w : Wishes) (among : Chosen) → w.layout ≡ Person → HaveOwnNames w.groups
-    → AllByRecursion HasOwnHeaders (sheets_for subject plan report w among)
-by_subject Run plan report w among is names = run_sheets_own plan report w among (found_of plan report w among) is
-by_subject Rounds plan report w among is names =
-    let parties : List Party = parties_of plan report among w.groups in
-    let lines : List Line = lines_of_rounds plan report w.groups among in
-    as_laid_out w.layout Rounds parties lines is
-    (rounds_own parties lines (subst (IsDistinct same_bytes) (same_names plan report among w.groups) names))
-by_subject Topics plan report w among is names =
-    let lines : List Line = map topic_line (run_counts plan report among).topics in
-    as_laid_out w.layout Topics [] lines is (topics_own lines)
-by_subject Links plan report w among is names =
-    let lines : List Line = map (link_line plan) (links_at among (run_counts plan report among).links) in
-    as_laid_out w.layout Links [] lines is (links_own lines)
+by_subject : (subject : Subject) (plan : Plan) (q : Inquiry) (report : Report) → q.layout ≡ Person → IsDistinct same_bytes (names_of q.parties)
+    → AllByRecursion HasOwnHeaders (sheets_for subject plan q report)
+by_subject Run plan q report is names = run_sheets_own plan q (found_of plan report q.among) is
+by_subject Rounds plan q report is names =
+    let lines : List Line = map (round_line (opinions_of plan report q.among q.groups)) (run_counts plan report q.among).rounds in
+    as_laid_out q.layout Rounds q.parties lines is (rounds_own q.parties lines names)
+by_subject Topics plan q report is names =
+    let lines : List Line = map topic_line (run_counts plan report q.among).topics in
+    as_laid_out q.layout Topics [] lines is (topics_own lines)
+by_subject Links plan q report is names =
+    let lines : List Line = map (link_line plan) (links_at q.among (run_counts plan report q.among).links) in
+    as_laid_out q.layout Links [] lines is (links_own lines)
 
-pub own : (plan : Plan) (report : Report) (w : Wishes) (among : Chosen) → w.layout ≡ Person → HaveOwnNames w.groups → AllByRecursion HasOwnHeaders (sheets_of plan report w among)
-own plan report w among is names = by_subject w.subject plan report w among is names
+pub own : (plan : Plan) (q : Inquiry) (report : Report) → q.layout ≡ Person → IsDistinct same_bytes (names_of q.parties) → AllByRecursion HasOwnHeaders (sheets_of plan q report)
+own plan q report is names = by_subject q.subject plan q report is names

@@ -23,24 +23,22 @@ use Rattle.gs_figure_sheets.specs.declared.figure.Figure.{Figure}
 use Rattle.gs_figure_sheets.specs.declared.figures.Line.{Line}
 use Rattle.gs_figure_sheets.specs.declared.figures.PeerFigures.{PeerFigures}
 use Rattle.gs_figure_sheets.specs.declared.found.Found.{Found}
+use Rattle.gs_figure_sheets.specs.declared.inquiry.Inquiry.{Inquiry}
 use Rattle.gs_figure_sheets.specs.declared.party.Party.{Party}
 use Rattle.gs_figure_sheets.specs.declared.wanted.Layout.{Layout}
 use Rattle.gs_figure_sheets.specs.declared.wanted.Layout.TheVariants.{Person, Data}
 use Rattle.gs_figure_sheets.specs.declared.wanted.Subject.{Subject}
 use Rattle.gs_figure_sheets.specs.declared.wanted.Subject.TheVariants.{Run, Rounds, Topics, Links}
 use Rattle.gs_figure_sheets.specs.Columns.{column_of, group_columns, limit_columns, message_columns, spread_columns}
-use Rattle.gs_figure_sheets.specs.Choices.{chosen_by}
-use Rattle.gs_figure_sheets.specs.FigureSheets.{dealt_in, found_of, lines_of_peers, lines_of_rounds, sheets_for, sheets_of, sheets_with}
+use Rattle.gs_figure_sheets.specs.FigureSheets.{dealt_in, found_of, lines_of_peers, sheets_for, sheets_of, sheets_with}
 use Rattle.gs_figure_sheets.specs.Figures.{figure_column}
 use Rattle.gs_figure_sheets.specs.Groups.{Dealt, group_pages, group_row, group_sheet, rows_from}
 use Rattle.gs_figure_sheets.specs.Lines.{all_line, figures_of_peers, link_line, links_at, opinions_in, party_line, peer_line, peer_lines, round_line, round_with, round_without, topic_line}
 use Rattle.gs_figure_sheets.specs.Pages.{figure_pages, figure_sheet, label_columns, section_name, section_sheet, section_title, subject_name, whole_title}
-use Rattle.gs_figure_sheets.specs.Parties.{groups_of, parties_of}
 use Rattle.gs_figure_sheets.specs.Reach.{limit_rows, limit_sheet, message_row, message_sheet, sheets_among, spread_row, spread_sheet, within_row}
 use Rattle.gs_figure_sheets.specs.Rows.{label_value, line_row, value_of}
 use Rattle.gs_figure_sheets.specs.Sections.{all_sections, section_figures, whole_figures}
 use Rattle.gs_figure_sheets.specs.Shapes.{IsFilled}
-use Rattle.gs_figure_sheets.specs.Wishes.{Wishes}
 
 -- ---- lists
 
@@ -148,26 +146,26 @@ group_pages_filled d (first ∷ more) = (groups_filled d (first ∷ more), tt)
 
 -- ---- all
 
-run_filled : (plan : Plan) (report : Report) (w : Wishes) (among : Chosen) (found : Found) → AllByRecursion IsFilled (sheets_with plan report w among found)
-run_filled plan report w among found =
-    let reach : List Sheet = sheets_among plan (chosen_by plan report w.by) among found.messages in
-    let peers : List Sheet = figure_pages w.layout Run found.parties (lines_of_peers plan report among found) in
-    let labelled : AllByRecursion (IsLabelled Run) (lines_of_peers plan report among found) = peers_labelled plan found.parties (figures_of_peers found.known among report.peers.items) in
-    both IsFilled (reach ++ peers) (group_pages (dealt_in report found) found.parties)
-    (both IsFilled reach peers (reach_filled plan (chosen_by plan report w.by) among found.messages) (pages_filled w.layout Run found.parties (lines_of_peers plan report among found) labelled))
-    (group_pages_filled (dealt_in report found) found.parties)
+run_filled : (plan : Plan) (q : Inquiry) (found : Found) → AllByRecursion IsFilled (sheets_with plan q found)
+run_filled plan q found =
+    let reach : List Sheet = sheets_among plan q.by q.among found.messages in
+    let peers : List Sheet = figure_pages q.layout Run q.parties (lines_of_peers plan q found) in
+    let labelled : AllByRecursion (IsLabelled Run) (lines_of_peers plan q found) = peers_labelled plan q.parties (figures_of_peers found.known q.among found.standings) in
+    both IsFilled (reach ++ peers) (group_pages (dealt_in found) q.parties)
+    (both IsFilled reach peers (reach_filled plan q.by q.among found.messages) (pages_filled q.layout Run q.parties (lines_of_peers plan q found) labelled))
+    (group_pages_filled (dealt_in found) q.parties)
 
-by_subject : (subject : Subject) (plan : Plan) (report : Report) (w : Wishes) (among : Chosen) → AllByRecursion IsFilled (sheets_for subject plan report w among)
-by_subject Run plan report w among = run_filled plan report w among (found_of plan report w among)
-by_subject Rounds plan report w among =
-    let opinions : Opinions = opinions_of plan report among (groups_of plan report w.groups) in
-    pages_filled w.layout Rounds (parties_of plan report among w.groups) (lines_of_rounds plan report w.groups among)
-    (mapped (IsLabelled Rounds) (round_line opinions) (round_labelled opinions) (run_counts plan report among).rounds)
-by_subject Topics plan report w among =
-    pages_filled w.layout Topics [] (map topic_line (run_counts plan report among).topics) (mapped (IsLabelled Topics) topic_line (λ x. refl) (run_counts plan report among).topics)
-by_subject Links plan report w among =
-    let links : List LinkCounts = links_at among (run_counts plan report among).links in
-    pages_filled w.layout Links [] (map (link_line plan) links) (mapped (IsLabelled Links) (link_line plan) (λ x. refl) links)
+by_subject : (subject : Subject) (plan : Plan) (q : Inquiry) (report : Report) → AllByRecursion IsFilled (sheets_for subject plan q report)
+by_subject Run plan q report = run_filled plan q (found_of plan report q.among)
+by_subject Rounds plan q report =
+    let opinions : Opinions = opinions_of plan report q.among q.groups in
+    let rounds : List RoundCounts = (run_counts plan report q.among).rounds in
+    pages_filled q.layout Rounds q.parties (map (round_line opinions) rounds) (mapped (IsLabelled Rounds) (round_line opinions) (round_labelled opinions) rounds)
+by_subject Topics plan q report =
+    pages_filled q.layout Topics [] (map topic_line (run_counts plan report q.among).topics) (mapped (IsLabelled Topics) topic_line (λ x. refl) (run_counts plan report q.among).topics)
+by_subject Links plan q report =
+    let links : List LinkCounts = links_at q.among (run_counts plan report q.among).links in
+    pages_filled q.layout Links [] (map (link_line plan) links) (mapped (IsLabelled Links) (link_line plan) (λ x. refl) links)
 
-pub filled : (plan : Plan) (report : Report) (w : Wishes) (among : Chosen) → AllByRecursion IsFilled (sheets_of plan report w among)
-filled plan report w among = by_subject w.subject plan report w among
+pub filled : (plan : Plan) (q : Inquiry) (report : Report) → AllByRecursion IsFilled (sheets_of plan q report)
+filled plan q report = by_subject q.subject plan q report

@@ -4,7 +4,6 @@ use Rattle.std.specs.List.{list_any, slice_split}
 use Rattle.gs_base.specs.declared.names.PeerNo.{PeerNo}
 use Rattle.gs_plan.specs.declared.plan.Plan.{Plan}
 use Rattle.gs_report.specs.Text.{name_of}
-use Rattle.gs_report.specs.declared.finished.Finished.{Finished}
 use Rattle.gs_report.specs.declared.report.Report.{Report}
 use Rattle.gs_reach.specs.Messages.{numbers_of}
 use Rattle.gs_reach.specs.declared.chosen.Chosen.{Chosen}
@@ -32,10 +31,15 @@ fits (first ∷ rest) (byte ∷ more) = is_star (first ∷ rest) || (first == by
 abbrev pub is_named : List ℕ → List ℕ → Bool
 is_named words name = list_any (λ word. fits word name) (slice_split (λ byte. byte == 44) words)
 
--- the peers of a run whose names match one of several words
-abbrev pub peers_named : Plan → List (PeerNo × Finished) → List ℕ → List PeerNo
-peers_named plan peers words = filter (λ p. is_named words (name_of plan p)) (numbers_of peers)
+-- those of these peers whose names match one of several words
+abbrev pub peers_named : Plan → List PeerNo → List ℕ → List PeerNo
+peers_named plan peers words = filter (λ p. is_named words (name_of plan p)) peers
 
+-- those of these peers that are chosen
+abbrev pub chosen_among : Plan → List PeerNo → Option (List ℕ) → Chosen
+chosen_among plan peers None = chosen.Any
+chosen_among plan peers (Some words) = chosen.Only (peers_named plan peers words)
+
+-- the peers of a run that are chosen
 abbrev pub chosen_by : Plan → Report → Option (List ℕ) → Chosen
-chosen_by plan report None = chosen.Any
-chosen_by plan report (Some words) = chosen.Only (peers_named plan report.peers.items words)
+chosen_by plan report words = chosen_among plan (numbers_of report.peers.items) words

@@ -1,7 +1,6 @@
 -- The sheet of what passes from group to group.
 use Rattle.std.specs.Prelude.{ℕ, Bool, false, ◌==◌, if◌then◌else◌, codes, List, [], ◌∷◌, ◌++◌, length, map, Option}
 use Rattle.std.specs.List.{flat_map}
-use Rattle.gs_base.specs.declared.names.PeerNo.{PeerNo}
 use Rattle.gs_counts.specs.declared.kind.Kind.TheVariants.{RpcsSent, BytesSent}
 use Rattle.gs_counts.specs.declared.run.LinkCounts.{LinkCounts}
 use Rattle.gs_counts.specs.declared.span.Span.{Span}
@@ -14,12 +13,12 @@ use Rattle.gs_reach.specs.declared.pairs.Pair.{Pair}
 use Rattle.gs_reach.specs.declared.spread.Spread.{Spread}
 use Rattle.gs_reach.specs.Chosen.{accepted_pairs}
 use Rattle.gs_reach.specs.Reached.{missed, reached, spread}
-use Rattle.gs_report.specs.declared.finished.Finished.{Finished}
 use Rattle.gs_sheets.specs.declared.sheet.Sheet.{Sheet}
 use Rattle.gs_sheets.specs.declared.sheet.Value.{Value}
 use Rattle.gs_sheets.specs.declared.sheet.Value.TheVariants.{Name, Count, Missing}
 use Rattle.gs_figure_sheets.specs.declared.groups.Dealings.{Dealings}
 use Rattle.gs_figure_sheets.specs.declared.party.Party.{Party}
+use Rattle.gs_figure_sheets.specs.declared.standing.Standing.{Standing}
 use Rattle.gs_figure_sheets.specs.Between.{lowest_between, over_between, places_between, span_between}
 use Rattle.gs_figure_sheets.specs.Columns.{column_of, group_columns}
 use Rattle.gs_figure_sheets.specs.Reach.{count_or_none, share_of, share_or_none}
@@ -29,7 +28,7 @@ use Rattle.gs_figure_sheets.specs.Rows.{lowest_in, moment_of, score_of, score_or
 pub record Dealt : Type 0 where
   pub messages : List MessageReach
   pub links : List LinkCounts
-  pub peers : List (PeerNo × Finished)
+  pub peers : List Standing
   pub opinions : List PairOpinion
 
 abbrev pub dealt_of : Dealings → Dealt
@@ -60,7 +59,7 @@ sent_values links from to =
     ∷ count_by from.told (over_between from.told to.peers BytesSent links) ∷ []
 
 -- how many places another group holds in the meshes of one group, and how many places those meshes have in all
-abbrev pub mesh_values : List (PeerNo × Finished) → Party → Party → List Value
+abbrev pub mesh_values : List Standing → Party → Party → List Value
 mesh_values peers from to =
     count_by from.told (places_between from.told to.peers peers)
     ∷ count_by from.told (places_between from.told Any peers) ∷ []

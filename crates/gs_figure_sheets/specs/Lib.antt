@@ -7,8 +7,11 @@ pub mod Figures
 pub mod Sections
 pub mod Rows
 pub mod Between
+pub mod Standings
 pub mod Lines
+pub mod Received
 pub mod Pages
 pub mod Groups
 pub mod FigureSheets
+pub mod Gathering
 pub mod Shapes

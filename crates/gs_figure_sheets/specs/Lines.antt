@@ -16,7 +16,6 @@ use Rattle.gs_plan.specs.declared.plan.Plan.{Plan}
 use Rattle.gs_reach.specs.declared.chosen.Chosen.{Chosen}
 use Rattle.gs_reach.specs.declared.chosen.Chosen.TheVariants.{Any, Only}
 use Rattle.gs_reach.specs.Chosen.{is_chosen}
-use Rattle.gs_report.specs.declared.finished.Finished.{Finished}
 use Rattle.gs_report.specs.Text.{name_of}
 use Rattle.gs_figure_sheets.specs.declared.figures.Label.{Label}
 use Rattle.gs_figure_sheets.specs.declared.figures.Label.TheVariants.{Named, Numbered}
@@ -25,7 +24,8 @@ use Rattle.gs_figure_sheets.specs.declared.figures.PeerFigures.{PeerFigures}
 use Rattle.gs_figure_sheets.specs.declared.figures.RowFigures.{RowFigures}
 use Rattle.gs_figure_sheets.specs.declared.known.Known.{Known}
 use Rattle.gs_figure_sheets.specs.declared.party.Party.{Party}
-use Rattle.gs_figure_sheets.specs.Between.{end_meshes, lowest_between, only_by, span_between}
+use Rattle.gs_figure_sheets.specs.declared.standing.Standing.{Standing}
+use Rattle.gs_figure_sheets.specs.Between.{lowest_between, only_by, span_between}
 use Rattle.gs_figure_sheets.specs.Rows.{joined_of, only_counts}
 
 -- a row that does not report groups
@@ -47,21 +47,21 @@ abbrev pub just : PeerNo → Chosen
 just p = Only (p ∷ [])
 
 -- the figures of a peer, where only the traces of some peers count
-abbrev pub peer_figures : Known → Chosen → List (PeerNo × Finished) → PeerNo × Finished → PeerFigures
+abbrev pub peer_figures : Known → Chosen → List Standing → Standing → PeerFigures
 peer_figures known among peers x = record {
-  peer = x.0;
+  peer = x.peer;
   figures = record {
-    counts = counts_of_peer known x.0;
-    bytes_heard = over_links (all_links known) x.0 BytesSent;
-    raw_bytes_heard = over_links (all_links known) x.0 RawBytesSent;
-    meshes = end_meshes x.1;
-    scores = span_between among (just x.0) peers;
-    lowest = lowest_between among (just x.0) known.opinions.pairs;
+    counts = counts_of_peer known x.peer;
+    bytes_heard = over_links (all_links known) x.peer BytesSent;
+    raw_bytes_heard = over_links (all_links known) x.peer RawBytesSent;
+    meshes = x.meshes;
+    scores = span_between among (just x.peer) peers;
+    lowest = lowest_between among (just x.peer) known.opinions.pairs;
   };
 }
 
 -- the figures of each peer whose trace counts
-abbrev pub figures_of_peers : Known → Chosen → List (PeerNo × Finished) → List PeerFigures
+abbrev pub figures_of_peers : Known → Chosen → List Standing → List PeerFigures
 figures_of_peers known among peers = map (peer_figures known among peers) (only_by among peers)
 
 -- a row with a name as its label

@@ -1,13 +1,13 @@
 -- Groups of peers, by the names of the peers.
 use Rattle.std.specs.Prelude.{ℕ, List, filter, map, Some}
 use Rattle.gs_plan.specs.declared.plan.Plan.{Plan}
-use Rattle.gs_report.specs.declared.report.Report.{Report}
+use Rattle.gs_base.specs.declared.names.PeerNo.{PeerNo}
 use Rattle.gs_reach.specs.declared.chosen.Chosen.{Chosen}
 use Rattle.gs_reach.specs.declared.chosen.Chosen.TheVariants as chosen
 use Rattle.gs_reach.specs.Chosen.{is_chosen}
 use Rattle.gs_figure_sheets.specs.declared.party.Party.{Party}
 use Rattle.gs_figure_sheets.specs.declared.wanted.Group.{Group}
-use Rattle.gs_figure_sheets.specs.Choices.{chosen_by, peers_named}
+use Rattle.gs_figure_sheets.specs.Choices.{chosen_among, peers_named}
 
 -- a group that is asked for: its name, and the names of its peers
 pub record GroupWish : Type 0 where
@@ -17,17 +17,17 @@ pub record GroupWish : Type 0 where
 abbrev pub group_wish : Group → GroupWish
 group_wish group = record { name = group.name.now; peers = group.peers.now }
 
--- a group of a run: its name, its peers, and those of them whose traces count
-abbrev pub party_of : Plan → Report → Chosen → GroupWish → Party
-party_of plan report among g = record {
+-- a group among these peers: its name, its peers, and those of them whose traces count
+abbrev pub party_of : Plan → List PeerNo → Chosen → GroupWish → Party
+party_of plan peers among g = record {
   name = g.name;
-  peers = chosen.Only (peers_named plan report.peers.items g.peers);
-  told = chosen.Only (filter (is_chosen among) (peers_named plan report.peers.items g.peers));
+  peers = chosen.Only (peers_named plan peers g.peers);
+  told = chosen.Only (filter (is_chosen among) (peers_named plan peers g.peers));
 }
 
-abbrev pub parties_of : Plan → Report → Chosen → List GroupWish → List Party
-parties_of plan report among groups = map (party_of plan report among) groups
+abbrev pub parties_of : Plan → List PeerNo → Chosen → List GroupWish → List Party
+parties_of plan peers among groups = map (party_of plan peers among) groups
 
 -- the peers of each group
-abbrev pub groups_of : Plan → Report → List GroupWish → List Chosen
-groups_of plan report groups = map (λ (g : GroupWish). chosen_by plan report (Some g.peers)) groups
+abbrev pub groups_of : Plan → List PeerNo → List GroupWish → List Chosen
+groups_of plan peers groups = map (λ (g : GroupWish). chosen_among plan peers (Some g.peers)) groups

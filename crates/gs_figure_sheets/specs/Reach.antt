@@ -3,7 +3,6 @@ use Rattle.std.specs.Prelude.{ℕ, ◌*◌, ◌/◌, ◌==◌, min, if◌then◌
 use Rattle.gs_base.specs.declared.verdict.Verdict.{Verdict}
 use Rattle.gs_base.specs.declared.verdict.Verdict.TheVariants.{Accept, Reject, Ignore}
 use Rattle.gs_plan.specs.declared.plan.Plan.{Plan}
-use Rattle.gs_report.specs.declared.report.Report.{Report}
 use Rattle.gs_report.specs.Text.{name_of}
 use Rattle.gs_reach.specs.declared.chosen.Chosen.{Chosen}
 use Rattle.gs_reach.specs.declared.distribution.Distribution.{Distribution}
@@ -11,12 +10,10 @@ use Rattle.gs_reach.specs.declared.distribution.Within.{Within}
 use Rattle.gs_reach.specs.declared.messages.MessageReach.{MessageReach}
 use Rattle.gs_reach.specs.declared.spread.Spread.{Spread}
 use Rattle.gs_reach.specs.Chosen.{accepted_pairs, chosen_messages, is_accepted}
-use Rattle.gs_reach.specs.Messages.{messages}
 use Rattle.gs_reach.specs.Reached.{distribution, missed, reached, spread}
 use Rattle.gs_sheets.specs.declared.sheet.Sheet.{Sheet}
 use Rattle.gs_sheets.specs.declared.sheet.Value.{Value}
 use Rattle.gs_sheets.specs.declared.sheet.Value.TheVariants.{Name, Payload, Count, Share, Missing}
-use Rattle.gs_figure_sheets.specs.Choices.{chosen_by}
 use Rattle.gs_figure_sheets.specs.Columns.{column_of, limit_columns, message_columns, spread_columns}
 
 -- ---- values
@@ -123,8 +120,3 @@ sheets_among plan by among ms =
     ∷ limit_sheet (distribution (accepted_pairs by among ms))
     ∷ spread_sheet (distribution (accepted_pairs by among ms))
     ∷ []
-
--- the same sheets, where names choose the peers
-abbrev pub reach_sheets : Plan → Report → Option (List ℕ) → Option (List ℕ) → List Sheet
-reach_sheets plan report by among =
-    sheets_among plan (chosen_by plan report by) (chosen_by plan report among) (messages plan report)

@@ -6,18 +6,14 @@ ghost use Rattle.gs_figure_sheets.specs.Between.{links_between, lowest_between, 
 ghost use Rattle.gs_figure_sheets.specs.Rows.{lower};
 
 use crate::span::{lower, widened};
+use crate::standing::Standing;
 use gs_base::{PeerNo, Topic};
 use gs_counts::{Kind, LinkCounts, Span};
 use gs_opinions::{Lowest, PairOpinion};
 use gs_reach::Chosen;
-use gs_report::Finished;
 
 /// Returns the lowest and the highest score that some peers give some others at the end.
-pub(crate) fn span_between(
-    by: &Chosen,
-    about: &Chosen,
-    peers: &[(PeerNo, Finished)],
-) -> Option<Span>
+pub(crate) fn span_between(by: &Chosen, about: &Chosen, peers: &[Standing]) -> Option<Span>
     ensures { result ≡ span_between by.now about.now peers.now }
 {
     let mut span = None;
@@ -28,18 +24,13 @@ pub(crate) fn span_between(
 }
 
 /// Returns a span, widened by the scores that a peer gives some others, if that peer is chosen.
-fn widened_by_peer(
-    span: Option<Span>,
-    by: &Chosen,
-    about: &Chosen,
-    peer: &(PeerNo, Finished),
-) -> Option<Span>
+fn widened_by_peer(span: Option<Span>, by: &Chosen, about: &Chosen, peer: &Standing) -> Option<Span>
     ensures { result ≡ fold widened span (scores_between by.now about.now (peer.now ∷ [])) }
 {
-    if !by.contains(peer.0) {
+    if !by.contains(peer.peer) {
         return span;
     }
-    widened_by_all(span, about, peer.1.scores.as_slice())
+    widened_by_all(span, about, peer.remains.scores.as_slice())
 }
 
 /// Returns a span, widened by those of these scores that some peers receive.
@@ -111,7 +102,7 @@ fn with_link(sum: u64, from: &Chosen, to: &Chosen, kind: Kind, link: &LinkCounts
 
 /// Returns how many places the peers `to` hold in the meshes of the peers `from` at the end. A peer holds one place in each
 /// mesh that it is in.
-pub(crate) fn places_between(from: &Chosen, to: &Chosen, peers: &[(PeerNo, Finished)]) -> u64
+pub(crate) fn places_between(from: &Chosen, to: &Chosen, peers: &[Standing]) -> u64
     ensures { result ≡ places_between from.now to.now peers.now }
 {
     let mut sum: u64 = 0;
@@ -121,14 +112,14 @@ pub(crate) fn places_between(from: &Chosen, to: &Chosen, peers: &[(PeerNo, Finis
     sum
 }
 
-fn with_places(sum: u64, from: &Chosen, to: &Chosen, peer: &(PeerNo, Finished)) -> u64
+fn with_places(sum: u64, from: &Chosen, to: &Chosen, peer: &Standing) -> u64
     ensures { result
-        ≡ fold (λ sum x. plus sum (places_for to.now x.1.meshes)) sum (only_by from.now (peer.now ∷ [])) }
+        ≡ fold (λ sum x. plus sum (places_for to.now x.remains.meshes)) sum (only_by from.now (peer.now ∷ [])) }
 {
-    if !from.contains(peer.0) {
+    if !from.contains(peer.peer) {
         return sum;
     }
-    sum.saturating_add(places_for(to, peer.1.meshes.as_slice()))
+    sum.saturating_add(places_for(to, peer.remains.meshes.as_slice()))
 }
 
 /// Returns how many places some peers hold in some meshes.

@@ -2,7 +2,7 @@
 ghost use Rattle.std.specs.Prelude.{◌≡◌, ◌++◌, filter, IfOk};
 ghost use Rattle.gs_reach.specs.Messages.{numbers_of};
 ghost use Rattle.gs_report.specs.Text.{name_of};
-ghost use Rattle.gs_figure_sheets.specs.Choices.{chosen_by, fits, is_named, is_star, peers_named, spelled};
+ghost use Rattle.gs_figure_sheets.specs.Choices.{chosen_among, chosen_by, fits, is_named, is_star, peers_named, spelled};
 
 use gs_base::{PeerNo, Seq};
 use gs_plan::Plan;
@@ -31,12 +31,35 @@ pub fn chosen_by(
 ) -> Result<Chosen, AllocError>
     ensures { IfOk result (λ chosen. chosen ≡ chosen_by plan.now report.now (spelled choice.entry)) }
 {
+    let peers = numbers_of(alloc, &report.peers)?;
+    chosen_among(alloc, plan, &peers, choice)
+}
+
+fn numbers_of(alloc: Global, peers: &[(PeerNo, Finished)]) -> Result<Vec<PeerNo>, AllocError>
+    ensures { IfOk result (λ numbers. numbers.items ≡ numbers_of peers.now) }
+{
+    let mut numbers = Vec::with_capacity(alloc, peers.len())?;
+    for peer in peers {
+        numbers.push(peer.0)?;
+    }
+    Ok(numbers)
+}
+
+/// Returns those of these peers that a choice names. The names are those in the plan.
+///
+/// # Errors
+/// `AllocError` when out of memory.
+pub(crate) fn chosen_among(
+    alloc: Global,
+    plan: &Plan,
+    peers: &[PeerNo],
+    choice: Choice<'_>,
+) -> Result<Chosen, AllocError>
+    ensures { IfOk result (λ chosen. chosen ≡ chosen_among plan.now peers.now (spelled choice.entry)) }
+{
     match choice {
         Choice::Any => Ok(Chosen::Any),
-        Choice::Named(words) => {
-            let peers = peers_named(alloc, plan, &report.peers, words)?;
-            Ok(Chosen::Only(peers))
-        }
+        Choice::Named(words) => Ok(Chosen::Only(peers_named(alloc, plan, peers, words)?)),
     }
 }
 
@@ -47,15 +70,15 @@ pub fn chosen_by(
 pub(crate) fn peers_named(
     alloc: Global,
     plan: &Plan,
-    peers: &[(PeerNo, Finished)],
+    peers: &[PeerNo],
     words: &str,
 ) -> Result<Seq<PeerNo>, AllocError>
     ensures { IfOk result (λ list. list ≡ peers_named plan.now peers.now words.now) }
 {
     let mut list = Seq::new(alloc);
     for peer in peers {
-        if is_named(words, name_of(plan, peer.0)) {
-            list.push(peer.0)?;
+        if is_named(words, name_of(plan, *peer)) {
+            list.push(*peer)?;
         }
     }
     Ok(list)

@@ -9,11 +9,11 @@ use crate::columns::group_columns;
 use crate::figures::{lowest_in, moment_of, score_of, score_or_none};
 use crate::party::Party;
 use crate::rows::{count_or_none, push_name, share_of, share_or_none};
-use gs_base::{PeerNo, Seq};
+use crate::standing::Standing;
+use gs_base::Seq;
 use gs_counts::{Kind, LinkCounts, Span};
 use gs_opinions::{Lowest, PairOpinion};
 use gs_reach::{Chosen, MessageReach, Pair, Spread, accepted_pairs, missed, reached, spread_of};
-use gs_report::Finished;
 use gs_sheets::{Row, Sheet, Value, bytes_of};
 use std::alloc::{AllocError, Global};
 
@@ -22,7 +22,7 @@ use std::alloc::{AllocError, Global};
 pub(crate) struct Dealings<'a> {
     pub messages: &'a [MessageReach],
     pub links: &'a [LinkCounts],
-    pub peers: &'a [(PeerNo, Finished)],
+    pub peers: &'a [Standing],
     pub opinions: &'a [PairOpinion],
 }
 
@@ -193,7 +193,7 @@ fn is_nobody(chosen: &Chosen) -> bool
 /// Appends how many places another group holds in the meshes of one group, and how many places those meshes have in all.
 fn push_meshes(
     row: &mut Row,
-    peers: &[(PeerNo, Finished)],
+    peers: &[Standing],
     from: &Party,
     to: &Party,
 ) -> Result<(), AllocError>

@@ -1,20 +1,22 @@
 //! The rows of figures: for peers and groups, for rounds, for topics and for links.
-ghost use Rattle.std.specs.Prelude.{◌≡◌, [], ◌∷◌, ◌++◌, codes, IfOk, map, OnOk, option_map};
-ghost use Rattle.gs_figure_sheets.specs.Between.{only_by};
+ghost use Rattle.std.specs.Prelude.{◌≡◌, [], ◌∷◌, ◌++◌, codes, IfOk, List, map, OnOk, option_map};
+ghost use Rattle.gs_reach.specs.declared.chosen.Chosen.{Chosen as ChosenValue};
+ghost use Rattle.gs_figure_sheets.specs.Received.{received_from};
+ghost use Rattle.gs_figure_sheets.specs.declared.standing.Standing.{Standing as StandingValue};
 ghost use Rattle.gs_figure_sheets.specs.declared.figures.Label.TheVariants.{Named};
-ghost use Rattle.gs_figure_sheets.specs.Lines.{all_line, figures_of_peers, just, link_line, links_at, named_line, party_line, peer_figures, peer_line, peer_lines, point, round_figures, round_line, round_with, round_without, topic_line};
+ghost use Rattle.gs_figure_sheets.specs.Lines.{all_line, figures_of_peers, link_line, links_at, named_line, party_line, peer_figures, peer_line, peer_lines, point, round_figures, round_line, round_with, round_without, topic_line};
 
-use crate::between::{lowest_between, span_between};
 use crate::figures::{Label, Line, PeerFigures, RowFigures, joined_of};
 use crate::known::Known;
-use crate::meshes::end_meshes;
 use crate::party::Party;
+use crate::received::{Received, received_by, received_in};
+use crate::standing::Standing;
 use gs_base::{PeerNo, Seq};
-use gs_counts::{Kind, LinkCounts, RoundCounts, Span, TopicCounts, over_links};
+use gs_counts::{LinkCounts, RoundCounts, Span, TopicCounts};
 use gs_opinions::{Opinions, RoundOpinions};
 use gs_plan::Plan;
 use gs_reach::Chosen;
-use gs_report::{Finished, name_of};
+use gs_report::name_of;
 use gs_sheets::bytes_of;
 use std::alloc::{AllocError, Global};
 
@@ -28,51 +30,37 @@ pub(crate) fn figures_of_peers(
     alloc: Global,
     known: &Known,
     among: &Chosen,
-    peers: &[(PeerNo, Finished)],
+    peers: &[Standing],
 ) -> Result<Vec<PeerFigures>, AllocError>
     ensures { IfOk result (λ rows. rows.items ≡ figures_of_peers known.now among.now peers.now) }
 {
+    let received = received_by(alloc, known, among, peers)?;
     let mut rows = Vec::new(alloc);
     for peer in peers {
-        if among.contains(peer.0) {
-            rows.push(peer_figures(alloc, known, among, peers, peer)?)?;
+        if among.contains(peer.peer) {
+            let received = received_in(&received, peer.peer);
+            rows.push(peer_figures(known, &received, peer))?;
         }
     }
     Ok(rows)
 }
 
-fn peer_figures(
-    alloc: Global,
-    known: &Known,
-    among: &Chosen,
-    peers: &[(PeerNo, Finished)],
-    peer: &(PeerNo, Finished),
-) -> Result<PeerFigures, AllocError>
-    ensures { IfOk result (λ row. row ≡ peer_figures known.now among.now peers.now peer.now) }
+fn peer_figures(known: &Known, received: &Received, peer: &Standing) -> PeerFigures
+    ensures { (among : ChosenValue) (peers : List StandingValue)
+        → received.now ≡ received_from known.now among peers peer.now.peer
+        → result ≡ peer_figures known.now among peers peer.now }
 {
-    let number = peer.0;
-    let meshes = end_meshes(alloc, &peer.1)?;
-    let about = just(alloc, number)?;
-    let figures = RowFigures {
-        counts: known.counts_of_peer(number),
-        bytes_heard: over_links(known.all_links(), number, Kind::BytesSent),
-        raw_bytes_heard: over_links(known.all_links(), number, Kind::RawBytesSent),
-        meshes,
-        scores: span_between(among, &about, peers),
-        lowest: lowest_between(among, &about, known.opinions.pairs.as_slice()),
-    };
-    Ok(PeerFigures {
-        peer: number,
-        figures,
-    })
-}
-
-/// Returns a choice of only one peer.
-fn just(alloc: Global, peer: PeerNo) -> Result<Chosen, AllocError>
-    ensures { IfOk result (λ chosen. chosen ≡ just peer) }
-{
-    let peers = Seq::only(alloc, peer)?;
-    Ok(Chosen::Only(peers))
+    PeerFigures {
+        peer: peer.peer,
+        figures: RowFigures {
+            counts: known.counts_of_peer(peer.peer),
+            bytes_heard: received.bytes,
+            raw_bytes_heard: received.raw_bytes,
+            meshes: peer.meshes,
+            scores: received.scores,
+            lowest: received.lowest,
+        },
+    }
 }
 
 /// Returns the rows of peers, then the rows of groups, and last the row of all peers together.

@@ -3,12 +3,11 @@ ghost use Rattle.std.specs.Prelude.{◌≡◌, ◌++◌, ◌∷◌, [], filter, 
 ghost use Rattle.gs_reach.specs.Chosen.{is_chosen};
 ghost use Rattle.gs_figure_sheets.specs.Parties.{groups_of, group_wish, parties_of, party_of};
 
-use crate::choice::{Choice, chosen_by, peers_named};
+use crate::choice::{Choice, chosen_among, peers_named};
 use crate::wanted::Group;
 use gs_base::{PeerNo, Seq};
 use gs_plan::Plan;
 use gs_reach::Chosen;
-use gs_report::Report;
 use gs_sheets::bytes_of;
 use std::alloc::{AllocError, Global};
 
@@ -22,22 +21,22 @@ pub struct Party {
     pub told: Chosen,
 }
 
-/// Returns the groups of a run, where only the traces of some peers count.
+/// Returns groups of these peers, where only the traces of some peers count.
 ///
 /// # Errors
 /// `AllocError` when out of memory.
 pub(crate) fn parties_of(
     alloc: Global,
     plan: &Plan,
-    report: &Report,
+    peers: &[PeerNo],
     among: &Chosen,
     groups: &[Group<'_>],
 ) -> Result<Seq<Party>, AllocError>
-    ensures { IfOk result (λ parties. parties ≡ parties_of plan.now report.now among.now (map group_wish groups.now)) }
+    ensures { IfOk result (λ parties. parties ≡ parties_of plan.now peers.now among.now (map group_wish groups.now)) }
 {
     let mut parties = Seq::new(alloc);
     for group in groups {
-        parties.push(party_of(alloc, plan, report, among, group)?)?;
+        parties.push(party_of(alloc, plan, peers, among, group)?)?;
     }
     Ok(parties)
 }
@@ -45,18 +44,18 @@ pub(crate) fn parties_of(
 fn party_of(
     alloc: Global,
     plan: &Plan,
-    report: &Report,
+    peers: &[PeerNo],
     among: &Chosen,
     group: &Group<'_>,
 ) -> Result<Party, AllocError>
-    ensures { IfOk result (λ party. party ≡ party_of plan.now report.now among.now (group_wish group.now)) }
+    ensures { IfOk result (λ party. party ≡ party_of plan.now peers.now among.now (group_wish group.now)) }
 {
     let name = bytes_of(alloc, group.name.as_bytes())?;
-    let peers = peers_named(alloc, plan, &report.peers, group.peers)?;
-    let told = told_of(alloc, among, peers.as_slice())?;
+    let members = peers_named(alloc, plan, peers, group.peers)?;
+    let told = told_of(alloc, among, members.as_slice())?;
     Ok(Party {
         name,
-        peers: Chosen::Only(peers),
+        peers: Chosen::Only(members),
         told: Chosen::Only(told),
     })
 }
@@ -74,21 +73,21 @@ fn told_of(alloc: Global, among: &Chosen, peers: &[PeerNo]) -> Result<Seq<PeerNo
     Ok(list)
 }
 
-/// Returns the peers of each group of a run.
+/// Returns which of these peers are in each group.
 ///
 /// # Errors
 /// `AllocError` when out of memory.
 pub(crate) fn groups_of(
     alloc: Global,
     plan: &Plan,
-    report: &Report,
+    peers: &[PeerNo],
     groups: &[Group<'_>],
 ) -> Result<Seq<Chosen>, AllocError>
-    ensures { IfOk result (λ list. list ≡ groups_of plan.now report.now (map group_wish groups.now)) }
+    ensures { IfOk result (λ list. list ≡ groups_of plan.now peers.now (map group_wish groups.now)) }
 {
     let mut list = Seq::new(alloc);
     for group in groups {
-        list.push(chosen_by(alloc, plan, report, Choice::Named(group.peers))?)?;
+        list.push(chosen_among(alloc, plan, peers, Choice::Named(group.peers))?)?;
     }
     Ok(list)
 }

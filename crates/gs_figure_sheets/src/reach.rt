@@ -1,44 +1,21 @@
 //! The sheets that say how many subscribers each message reached.
 ghost use Rattle.std.specs.Prelude.{◌≡◌, ◌++◌, ◌∷◌, [], IfOk, OnOk, map};
-ghost use Rattle.gs_figure_sheets.specs.Choices.{spelled};
-ghost use Rattle.gs_figure_sheets.specs.Reach.{limit_sheet, message_row, message_sheet, reach_sheets, sheets_among, spread_sheet};
+ghost use Rattle.gs_figure_sheets.specs.Reach.{limit_sheet, message_row, message_sheet, sheets_among, spread_sheet};
 
-use crate::choice::{Choice, chosen_by};
 use crate::columns::{limit_columns, message_columns, spread_columns};
 use crate::rows::{limit_rows, message_row, spread_row};
 use gs_base::Seq;
 use gs_plan::Plan;
 use gs_reach::{
     Chosen, Distribution, MessageReach, accepted_pairs, chosen_messages, distribution_of,
-    messages_of,
 };
-use gs_report::Report;
 use gs_sheets::{Row, Sheet, bytes_of};
 use std::alloc::{AllocError, Global};
 
-/// Returns sheets that say how many subscribers the messages of a run reached. Only messages that the peers `by` published
+/// Returns sheets that say how many subscribers these messages of a run reached. Only messages that the peers `by` published
 /// first count, and only subscribers among the peers `among`. The first sheet has a row for each message. The other two are
 /// about all pairs of a message that validation accepts and one of its subscribers. The second sheet states how many pairs
 /// were reached within limits of rounds. The third states in how many rounds parts of all pairs were reached.
-///
-/// # Errors
-/// `AllocError` when out of memory.
-pub fn reach_sheets(
-    alloc: Global,
-    plan: &Plan,
-    report: &Report,
-    by: Choice<'_>,
-    among: Choice<'_>,
-) -> Result<Seq<Sheet>, AllocError>
-    ensures { IfOk result (λ sheets. sheets ≡ reach_sheets plan.now report.now (spelled by.entry) (spelled among.entry)) }
-{
-    let by = chosen_by(alloc, plan, report, by)?;
-    let among = chosen_by(alloc, plan, report, among)?;
-    let messages = messages_of(alloc, plan, report)?;
-    sheets_among(alloc, plan, &by, &among, messages.as_slice())
-}
-
-/// Returns the same sheets for these messages and for peers that are already chosen.
 ///
 /// # Errors
 /// `AllocError` when out of memory.

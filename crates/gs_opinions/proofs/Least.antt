@@ -11,10 +11,6 @@ use Rattle.gs_opinions.specs.Noting.{lower}
 under_first : (a b c : ℤ) → int_lt a b ≡ true → int_lt b c ≡ true → int_lt a c ≡ true
 under_first a b c p q = grind (arith, ints)
 
--- a is below b, and c is not: nor is c below a
-under_later : (a b c : ℤ) → int_lt a b ≡ true → int_lt c b ≡ false → int_lt c a ≡ false
-under_later a b c p q = grind (arith, ints)
-
 under_above : (a b c : ℤ) → int_lt a b ≡ true → int_lt c b ≡ false → int_lt a c ≡ true
 under_above a b c p q = grind (arith, ints)
 

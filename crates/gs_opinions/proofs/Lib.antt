@@ -13,4 +13,4 @@ mod Moved
 mod Reading
 mod Listed
 mod Judged
-mod Seated
+mod Judges

@@ -13,7 +13,7 @@ use Rattle.gs_opinions.specs.declared.opinion.Opinion.{Opinion}
 use Rattle.gs_opinions.specs.declared.traces.Judge.{Judge}
 use Rattle.gs_opinions.specs.Noting.{Shows}
 use Rattle.gs_opinions.specs.Opinions.{later_opinions, trace_opinions}
-use Rattle.gs_opinions.specs.Reading.{HasSeen}
+use Rattle.gs_opinions.specs.Reading.{IsJudgeAfter}
 
 -- the opinions of the chosen peers of a plan in these traces, peer by peer
 abbrev pub opinions_in : Plan → Chosen → (PeerNo → Entries) → List Opinion
@@ -23,13 +23,13 @@ opinions_in plan of traces = flat_map (λ p. trace_opinions plan p (traces p)) (
 abbrev pub chosen_opinions : Plan → Chosen → PeerNo → List Entry → Entries → List Opinion
 chosen_opinions plan of p es L = if is_chosen of p then later_opinions plan p es L else []
 
--- a peer has a state exactly if it is chosen, and then its trace was seen
-abbrev pub Sits : Plan → Chosen → (PeerNo → Entries) → PeerNo → Option Judge → Type 0
-Sits plan of traces p None = is_chosen of p ≡ false
-Sits plan of traces p (Some judge) = (is_chosen of p ≡ true) × HasSeen plan p judge (traces p)
+-- a peer has a judge exactly if it is chosen, and then its judge has seen its trace
+abbrev pub HasItsJudge : Plan → Chosen → (PeerNo → Entries) → PeerNo → Option Judge → Type 0
+HasItsJudge plan of traces p None = is_chosen of p ≡ false
+HasItsJudge plan of traces p (Some judge) = (is_chosen of p ≡ true) × IsJudgeAfter plan p judge (traces p)
 
--- The chosen peers of a plan were seen, with these traces. States are by number, and other peers have none.
+-- The chosen peers of a plan were seen, with these traces. Judges are by number, and other peers have none.
 pub record HasJudged (plan : Plan) (of : Chosen) (groups : List Chosen) (judging : Judging)
     (traces : PeerNo → Entries) : Type 0 where
-  pub seats : AllZip (Sits plan of traces) (numbers plan) judging.seats.items
+  pub judges : AllZip (HasItsJudge plan of traces) (numbers plan) judging.judges.items
   pub tables : Shows plan groups judging.tables (opinions_in plan of traces)

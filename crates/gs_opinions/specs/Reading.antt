@@ -12,8 +12,8 @@ use Rattle.gs_opinions.specs.declared.tables.Tables.{Tables}
 use Rattle.gs_opinions.specs.declared.traces.Judge.{Judge}
 use Rattle.gs_opinions.specs.Noting.{Shows}
 
--- These entries of a peer of the plan were seen, the newest first.
-pub record HasSeen (plan : Plan) (p : PeerNo) (judge : Judge) (L : Entries) : Type 0 where
+-- This is the judge of a peer of the plan, after these entries, the newest first.
+pub record IsJudgeAfter (plan : Plan) (p : PeerNo) (judge : Judge) (L : Entries) : Type 0 where
   pub number : judge.peer ≡ p
   pub neighbours : judge.neighbours.items ≡ neighbours_in plan p
   pub watches : Watches judge.watcher (peer_in plan p) L

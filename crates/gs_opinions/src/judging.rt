@@ -9,8 +9,9 @@ ghost use Rattle.gs_report.specs.declared.report.Report.{Report as ReportValue};
 ghost use Rattle.gs_router.specs.Following.{AreInOrder};
 ghost use Rattle.gs_rules.specs.Tables.{Entries};
 ghost use Rattle.gs_reach.specs.declared.chosen.Chosen.{Chosen as ChosenValue};
+ghost use Rattle.gs_seats.specs.Own.{AreNeighbourhoods};
 ghost use Rattle.gs_seats.specs.Rounds.{numbers};
-ghost use Rattle.gs_opinions.specs.Judging.{HasJudged, Sits, chosen_opinions};
+ghost use Rattle.gs_opinions.specs.Judging.{HasItsJudge, HasJudged, chosen_opinions};
 ghost use Rattle.gs_opinions.specs.Reading.{ShowsMore};
 ghost use Rattle.gs_opinions.specs.Runs.{opinions_of};
 
@@ -21,13 +22,14 @@ use gs_base::PeerNo;
 use gs_plan::Plan;
 use gs_reach::Chosen;
 use gs_rules::StoredEntry;
+use gs_seats::Neighbourhoods;
 use std::alloc::{AllocError, Global};
 
 /// The lowest opinions of a run so far, of the chosen peers. It keeps no trace.
 #[derive(Drop)]
 pub struct Judging<'a> {
-    /// A state for each chosen peer of the plan, and none for each other one, by number.
-    seats: Vec<Option<Judge>>,
+    /// A judge for each chosen peer of the plan, and none for each other one, by number.
+    judges: Vec<Option<Judge>>,
     tables: Tables<'a>,
 }
 
@@ -45,9 +47,10 @@ impl<'a> Judging<'a> {
         requires { IsInRange plan.now }
         ensures { IfOk result (λ judging. HasJudged plan.now of.now groups.now judging (λ p. [])) }
     {
-        let seats = seats_of(alloc, plan, of)?;
+        let neighbourhoods = Neighbourhoods::of(alloc, plan)?;
+        let judges = judges_of(alloc, plan, &neighbourhoods, of)?;
         let tables = Tables::new(alloc, plan, groups)?;
-        Ok(Judging { seats, tables })
+        Ok(Judging { judges, tables })
     }
 
     /// Notes what a peer did since it was seen last, the oldest entry first. No entry is earlier than the one before it.
@@ -66,8 +69,8 @@ impl<'a> Judging<'a> {
             → HasJudged plan of groups self.old before
             → HasJudged plan of groups self.new after) }
     {
-        match self.seats.get_mut(usize::from(peer.0)) {
-            Some(seat) => see_from(seat, &mut self.tables, entries),
+        match self.judges.get_mut(usize::from(peer.0)) {
+            Some(judge) => see_from(judge, &mut self.tables, entries),
             None => Ok(()),
         }
     }
@@ -91,50 +94,59 @@ impl<'a> Judging<'a> {
     }
 }
 
-/// A state for each chosen peer of a plan.
-fn seats_of(alloc: Global, plan: &Plan, of: &Chosen) -> Result<Vec<Option<Judge>>, AllocError>
-    requires { IsInRange plan.now }
-    ensures { IfOk result (λ seats. AllZip (Sits plan.now of.now (λ p. [])) (numbers plan.now) seats.items) }
-{
-    let mut seats = Vec::new(alloc);
-    for number in 0..plan.peers.len() as u16 {
-        seats.push(seat_of(alloc, plan, of, PeerNo(number))?)?;
-    }
-    Ok(seats)
-}
-
-fn seat_of(
+/// A judge for each chosen peer of a plan, before the peers did anything.
+fn judges_of(
     alloc: Global,
     plan: &Plan,
+    neighbourhoods: &Neighbourhoods,
+    of: &Chosen,
+) -> Result<Vec<Option<Judge>>, AllocError>
+    requires range { IsInRange plan.now }
+    requires sorted { AreNeighbourhoods plan.now neighbourhoods.now }
+    ensures { IfOk result (λ judges. AllZip (HasItsJudge plan.now of.now (λ p. [])) (numbers plan.now) judges.items) }
+{
+    let mut judges = Vec::new(alloc);
+    for number in 0..plan.peers.len() as u16 {
+        judges.push(judge_of(alloc, plan, neighbourhoods, of, PeerNo(number))?)?;
+    }
+    Ok(judges)
+}
+
+/// The judge of a peer that did nothing yet, if the peer is chosen.
+fn judge_of(
+    alloc: Global,
+    plan: &Plan,
+    neighbourhoods: &Neighbourhoods,
     of: &Chosen,
     peer: PeerNo,
 ) -> Result<Option<Judge>, AllocError>
-    requires { IsInRange plan.now }
-    ensures { IfOk result (λ seat. Sits plan.now of.now (λ p. []) peer seat) }
+    requires range { IsInRange plan.now }
+    requires sorted { AreNeighbourhoods plan.now neighbourhoods.now }
+    ensures { IfOk result (λ judge. HasItsJudge plan.now of.now (λ p. []) peer judge) }
 {
     if of.contains(peer) {
-        let judge = Judge::new(alloc, plan, peer)?;
+        let judge = Judge::new(alloc, plan, neighbourhoods, peer)?;
         return Ok(Some(judge));
     }
     Ok(None)
 }
 
-/// Notes what the peer of a state did, if there is one.
+/// Notes what the peer of a judge did, if there is a judge.
 fn see_from(
-    seat: &mut Option<Judge>,
+    judge: &mut Option<Judge>,
     tables: &mut Tables<'_>,
     entries: &[StoredEntry],
 ) -> Result<(), AllocError>
     requires { (plan : PlanValue) × (of : ChosenValue) × (p : PeerNoValue) × (traces : PeerNoValue → Entries)
-        × Sits plan of traces p seat.old × AreInOrder (reverse entries.now ++ traces p) }
+        × HasItsJudge plan of traces p judge.old × AreInOrder (reverse entries.now ++ traces p) }
     ensures { OnOk result ((plan : PlanValue) (of : ChosenValue) (p : PeerNoValue)
         (before after : PeerNoValue → Entries)
         → after p ≡ reverse entries.now ++ before p
-        → Sits plan of before p seat.old
-        → Sits plan of after p seat.new
+        → HasItsJudge plan of before p judge.old
+        → HasItsJudge plan of after p judge.new
         × ShowsMore plan tables.old tables.new (chosen_opinions plan of p entries.now (before p))) }
 {
-    match seat {
+    match judge {
         Some(judge) => judge.see(tables, entries),
         None => Ok(()),
     }

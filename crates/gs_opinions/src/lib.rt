@@ -15,4 +15,4 @@ mod traces;
 pub use judging::Judging;
 pub use laws::the_lowest_is_the_first_that_none_is_below;
 pub use opinion::{Lowest, Opinion};
-pub use run::{Opinions, PairOpinion, RoundOpinions, opinions_of};
+pub use run::{Opinions, PairOpinion, RoundOpinions};

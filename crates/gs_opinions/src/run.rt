@@ -1,26 +1,20 @@
 //! The lowest opinions of a run.
-ghost use Rattle.std.specs.Prelude.{◌≡◌, ◌++◌, ◌∷◌, [], IfOk, List, map, OnOk};
-ghost use Rattle.std.specs.List.{AllByRecursion, range_with_len};
-ghost use Rattle.gs_base.specs.declared.names.PeerNo.{PeerNo as PeerNoValue};
+ghost use Rattle.std.specs.Prelude.{◌≡◌, ◌++◌, IfOk, List, map, OnOk};
+ghost use Rattle.std.specs.List.{range_with_len};
 ghost use Rattle.gs_plan.specs.Plans.{IsInRange};
-ghost use Rattle.gs_report.specs.declared.finished.Finished.{Finished as FinishedValue};
-ghost use Rattle.gs_router.specs.Following.{AreInOrder};
 ghost use Rattle.gs_reach.specs.declared.chosen.Chosen.{Chosen as ChosenValue};
 ghost use Rattle.gs_opinions.specs.declared.opinion.Opinion.{Opinion as OpinionValue};
 ghost use Rattle.gs_opinions.specs.Listing.{all_rows, groups_at, pair_below, round_at, rows_at, rows_by};
 ghost use Rattle.gs_opinions.specs.Noting.{Shows};
-ghost use Rattle.gs_opinions.specs.Opinions.{opinions_by};
-ghost use Rattle.gs_opinions.specs.Runs.{lowest_opinions, opinions_of};
+ghost use Rattle.gs_opinions.specs.Runs.{lowest_opinions};
 
 use crate::cells::cell_at;
 use crate::opinion::Lowest;
 use crate::pairs::PairRow;
 use crate::tables::{GroupRounds, Tables};
-use crate::traces::note_peer;
 use gs_base::{PeerNo, Seq};
 use gs_plan::Plan;
 use gs_reach::Chosen;
-use gs_report::{Finished, Report};
 use std::alloc::{AllocError, Global};
 
 /// The lowest score that a peer gives a neighbour over a run.
@@ -53,68 +47,6 @@ pub struct Opinions {
     pub pairs: Seq<PairOpinion>,
     /// A row for each round, including the last one of the plan. Later opinions are in no row.
     pub rounds: Seq<RoundOpinions>,
-}
-
-/// Returns the lowest opinions of the chosen peers in a run of a plan, and the lowest opinions about each of these groups.
-/// In each trace no entry may be earlier than the one before it.
-///
-/// # Errors
-/// `AllocError` if it runs out of memory.
-pub fn opinions_of(
-    alloc: Global,
-    plan: &Plan,
-    report: &Report,
-    of: &Chosen,
-    groups: &[Chosen],
-) -> Result<Opinions, AllocError>
-    requires range { IsInRange plan.now }
-    requires order { AllByRecursion (λ (x : PeerNoValue × FinishedValue). AreInOrder x.1.trace) report.now.peers.items }
-    ensures { IfOk result (λ opinions. opinions ≡ opinions_of plan.now report.now of.now groups.now) }
-{
-    let mut tables = Tables::new(alloc, plan, groups)?;
-    note_peers(alloc, plan, &mut tables, of, &report.peers)?;
-    let opinions = rows_of(alloc, plan, &tables)?;
-    Ok(opinions)
-}
-
-/// Notes the opinions of those of these peers that are chosen.
-fn note_peers(
-    alloc: Global,
-    plan: &Plan,
-    tables: &mut Tables<'_>,
-    of: &Chosen,
-    peers: &[(PeerNo, Finished)],
-) -> Result<(), AllocError>
-    requires range { IsInRange plan.now }
-    requires order { AllByRecursion (λ (x : PeerNoValue × FinishedValue). AreInOrder x.1.trace) peers.now }
-    ensures { OnOk result ((groups : List ChosenValue) (os : List OpinionValue)
-        → Shows plan.now groups tables.old os
-        → Shows plan.now groups tables.new (os ++ opinions_by plan.now of.now peers.now)) }
-{
-    for peer in peers {
-        note_chosen(alloc, plan, tables, of, peer)?;
-    }
-    Ok(())
-}
-
-/// Notes the opinions of a peer, if it is chosen.
-fn note_chosen(
-    alloc: Global,
-    plan: &Plan,
-    tables: &mut Tables<'_>,
-    of: &Chosen,
-    peer: &(PeerNo, Finished),
-) -> Result<(), AllocError>
-    requires range { IsInRange plan.now }
-    requires order { AreInOrder peer.now.1.trace }
-    ensures { OnOk result ((groups : List ChosenValue) (os : List OpinionValue)
-        → Shows plan.now groups tables.old os
-        → Shows plan.now groups tables.new (os ++ opinions_by plan.now of.now (peer.now ∷ []))) }
-{
-    if of.contains(peer.0) {
-        return note_peer(alloc, plan, tables, peer);
-    }
-    Ok(())
 }
 
 /// The rows of these tables.

@@ -5,17 +5,17 @@ ghost use Rattle.gs_plan.specs.Plans.{IsInRange};
 ghost use Rattle.gs_plan.specs.declared.plan.Plan.{Plan as PlanValue};
 ghost use Rattle.gs_router.specs.Following.{AreInOrder};
 ghost use Rattle.gs_rules.specs.Tables.{Entries, last_moment};
-ghost use Rattle.gs_opinions.specs.Opinions.{entry_opinions, is_after, is_before, later_opinions, look_at, opinion_of, opinions_after, opinions_at, opinions_before, peer_opinions};
-ghost use Rattle.gs_opinions.specs.Reading.{HasSeen, ShowsMore};
+ghost use Rattle.gs_seats.specs.Own.{AreNeighbourhoods};
+ghost use Rattle.gs_opinions.specs.Opinions.{entry_opinions, is_after, is_before, later_opinions, look_at, opinion_of, opinions_after, opinions_at, opinions_before};
+ghost use Rattle.gs_opinions.specs.Reading.{IsJudgeAfter, ShowsMore};
 
 use crate::opinion::Opinion;
 use crate::tables::Tables;
 use gs_base::{Millis, Neighbour, PeerNo};
 use gs_plan::Plan;
-use gs_report::Finished;
 use gs_router::Watcher;
 use gs_rules::{Event, StoredEntry};
-use gs_seats::{neighbours_of, watcher_of};
+use gs_seats::{Neighbourhoods, watcher_among};
 use std::alloc::{AllocError, Global};
 
 /// A peer whose entries are seen.
@@ -64,12 +64,18 @@ impl Look {
 
 impl Judge {
     /// A peer of a plan that did nothing yet.
-    pub(crate) fn new(alloc: Global, plan: &Plan, peer: PeerNo) -> Result<Judge, AllocError>
-        requires { IsInRange plan.now }
-        ensures { IfOk result (λ judge. HasSeen plan.now peer judge []) }
+    pub(crate) fn new(
+        alloc: Global,
+        plan: &Plan,
+        neighbourhoods: &Neighbourhoods,
+        peer: PeerNo,
+    ) -> Result<Judge, AllocError>
+        requires range { IsInRange plan.now }
+        requires sorted { AreNeighbourhoods plan.now neighbourhoods.now }
+        ensures { IfOk result (λ judge. IsJudgeAfter plan.now peer judge []) }
     {
-        let neighbours = neighbours_of(alloc, plan, peer)?;
-        let watcher = watcher_of(alloc, plan, peer)?;
+        let neighbours = neighbourhoods.neighbours(alloc, plan, peer)?;
+        let watcher = watcher_among(alloc, plan, neighbourhoods, peer)?;
         Ok(Judge {
             peer,
             neighbours,
@@ -85,10 +91,10 @@ impl Judge {
         entries: &[StoredEntry],
     ) -> Result<(), AllocError>
         requires { (plan : PlanValue) × (p : PeerNoValue) × (L : Entries)
-            × HasSeen plan p self.old L × AreInOrder (reverse entries.now ++ L) }
+            × IsJudgeAfter plan p self.old L × AreInOrder (reverse entries.now ++ L) }
         ensures { OnOk result ((plan : PlanValue) (p : PeerNoValue) (L : Entries)
-            → HasSeen plan p self.old L
-            → HasSeen plan p self.new (reverse entries.now ++ L)
+            → IsJudgeAfter plan p self.old L
+            → IsJudgeAfter plan p self.new (reverse entries.now ++ L)
             × ShowsMore plan tables.old tables.new (later_opinions plan p entries.now L)) }
     {
         for entry in entries {
@@ -100,11 +106,11 @@ impl Judge {
     /// Sees an entry, and notes the opinions at it.
     fn see_one(&mut self, tables: &mut Tables<'_>, entry: &StoredEntry) -> Result<(), AllocError>
         requires { (plan : PlanValue) × (p : PeerNoValue) × (L : Entries)
-            × HasSeen plan p self.old L × (last_moment L ≤ entry.now.at.0) }
+            × IsJudgeAfter plan p self.old L × (last_moment L ≤ entry.now.at.0) }
         ensures { OnOk result ((plan : PlanValue) (p : PeerNoValue) (L : Entries)
-            → HasSeen plan p self.old L
+            → IsJudgeAfter plan p self.old L
             → last_moment L ≤ entry.now.at.0
-            → HasSeen plan p self.new (entry.now ∷ L)
+            → IsJudgeAfter plan p self.new (entry.now ∷ L)
             × ShowsMore plan tables.old tables.new (entry_opinions plan p entry.now L)) }
     {
         self.note_before(tables, entry)?;
@@ -117,7 +123,7 @@ impl Judge {
     /// Notes the opinions just before an entry, which was not seen yet.
     fn note_before(&self, tables: &mut Tables<'_>, entry: &StoredEntry) -> Result<(), AllocError>
         ensures { OnOk result ((plan : PlanValue) (p : PeerNoValue) (L : Entries)
-            → HasSeen plan p self.now L
+            → IsJudgeAfter plan p self.now L
             → ShowsMore plan tables.old tables.new (opinions_before plan p entry.now L)) }
     {
         if look_at(entry.event()).is_before() {
@@ -129,7 +135,7 @@ impl Judge {
     /// Notes the opinions after an entry, the newest that was seen.
     fn note_after(&self, tables: &mut Tables<'_>, entry: &StoredEntry) -> Result<(), AllocError>
         ensures { OnOk result ((plan : PlanValue) (p : PeerNoValue) (L : Entries)
-            → HasSeen plan p self.now (entry.now ∷ L)
+            → IsJudgeAfter plan p self.now (entry.now ∷ L)
             → ShowsMore plan tables.old tables.new (opinions_after plan p entry.now L)) }
     {
         if look_at(entry.event()).is_after() {
@@ -141,7 +147,7 @@ impl Judge {
     /// Notes the peer's opinion of each neighbour at a moment.
     fn note_moment(&self, tables: &mut Tables<'_>, at: Millis) -> Result<(), AllocError>
         ensures { OnOk result ((plan : PlanValue) (p : PeerNoValue) (L : Entries)
-            → HasSeen plan p self.now L
+            → IsJudgeAfter plan p self.now L
             → ShowsMore plan tables.old tables.new (opinions_at plan p L at)) }
     {
         for neighbour in &self.neighbours {
@@ -153,7 +159,7 @@ impl Judge {
     /// The peer's opinion of a neighbour at a moment.
     fn opinion_of(&self, at: Millis, neighbour: PeerNo) -> Opinion
         ensures { (plan : PlanValue) (p : PeerNoValue) (L : Entries)
-            → HasSeen plan p self.now L → result ≡ opinion_of plan p L at neighbour }
+            → IsJudgeAfter plan p self.now L → result ≡ opinion_of plan p L at neighbour }
     {
         Opinion {
             by: self.peer,
@@ -162,23 +168,6 @@ impl Judge {
             at,
         }
     }
-}
-
-/// Notes all opinions of a peer.
-pub(crate) fn note_peer(
-    alloc: Global,
-    plan: &Plan,
-    tables: &mut Tables<'_>,
-    peer: &(PeerNo, Finished),
-) -> Result<(), AllocError>
-    requires range { IsInRange plan.now }
-    requires order { AreInOrder peer.now.1.trace }
-    ensures { OnOk result (ShowsMore plan.now tables.old tables.new (peer_opinions plan.now peer.now)) }
-{
-    let (number, life) = peer;
-    let mut judge = Judge::new(alloc, plan, *number)?;
-    judge.see(tables, life.trace.entries())?;
-    Ok(())
 }
 
 /// When scores are looked at. Each event is named, so that somebody decides about a new one.

@@ -3,3 +3,4 @@ pub mod Printing
 pub mod Program
 pub mod Endings
 pub mod Summaries
+pub mod Progress

@@ -1,16 +1,19 @@
 //! A program's run: what it reads, what it writes and how it ends.
 ghost use Rattle.std.specs.Io.KnownBytes.{IsAtEnd};
-ghost use Rattle.std.specs.Prelude.{◌≡◌, Bool, false, IfErr, IfOk, List, OnOk, Option, ℕ};
+ghost use Rattle.std.specs.Prelude.{◌≡◌, Bool, false, IfErr, IfOk, is_ok, List, OnOk, Option, ℕ};
 ghost use Rattle.std.specs.Process.{exit_status};
 ghost use Rattle.gs_plan.specs.Plans.{IsInRange};
+ghost use Rattle.gs_seats.specs.Faults.{number_of};
 ghost use Rattle.gs_seats.specs.Reports.{IsReport};
 ghost use Rattle.gs_streams.specs.Inputs.{IsScenario};
 ghost use Rattle.gs_report.specs.declared.report.Report.{Report as ReportValue};
 ghost use Rattle.gs_program.specs.Endings.{EndsPrinted, EndsUnprinted};
 ghost use Rattle.gs_program.specs.Printing.{Prints, StopsPrinting};
-ghost use Rattle.gs_program.specs.Program.{EndsAs, EndsWith, MayMeet, TellsFault, status_of};
+ghost use Rattle.gs_program.specs.Program.{EndsAs, MayMeet, TellsFault, status_of};
+ghost use Rattle.gs_program.specs.Progress.{EndsShowing, ExitsShowing, HasProgress, has_ended};
 
 use crate::printer::{PrintFault, Printer};
+use crate::progress::Progress;
 use crate::reading::plan_after;
 use crate::telling::tell_fault;
 use gs_direct::run_direct;
@@ -63,25 +66,28 @@ pub struct Program<P> {
     pub alloc: Global,
     /// How large a scenario may be.
     pub limits: Limits,
+    /// Whether `errors` gets a line at the end of each round of a run without links.
+    pub progress: bool,
     /// Makes the text.
     pub printer: P,
 }
 
 impl<P: Printer> Program<P> {
     /// Reads a scenario from the input, runs it on this thread without links, and then writes a text about its report to the
-    /// output. Where there is no text, a line on `errors`, or a front of it, says why.
+    /// output. Where there is no text, a line on `errors`, or a front of it, says why. If progress is wanted, `errors` has lines
+    /// about the run before that.
     pub fn run<R, W, E>(&self, input: &mut R, output: &mut W, errors: &mut E) -> ExitStatus
     where
         R: Read,
         W: Write,
         E: Write,
-        ensures { EndsAs self.now.limits (P.text self.now.printer) P.in_parts false result
+        ensures { EndsShowing self.now.limits (P.text self.now.printer) P.in_parts false self.now.progress result
             (R.remaining input.old) (R.remaining input.new)
             (W.contents output.old) (W.contents output.new) (E.contents errors.old) (E.contents errors.new) }
     {
         match self.read(input, errors) {
             Ok(plan) => {
-                let ran = run_direct(self.alloc, &plan);
+                let ran = self.ran(&plan, errors);
                 self.write(&plan, ran, output, errors)
             }
             Err(status) => status,
@@ -94,7 +100,8 @@ impl<P: Printer> Program<P> {
         R: Read,
         W: Write,
         E: Write,
-        ensures { EndsWith self.now.limits (P.text self.now.printer) P.in_parts false (exit_status result)
+        ensures { ExitsShowing self.now.limits (P.text self.now.printer) P.in_parts false self.now.progress
+            (exit_status result)
             (R.remaining input.old) (R.remaining input.new)
             (W.contents output.old) (W.contents output.new) (E.contents errors.old) (E.contents errors.new) }
     {
@@ -117,9 +124,27 @@ impl<P: Printer> Program<P> {
             → EndsAs self.now.limits (P.text self.now.printer) P.in_parts needs status
             (R.remaining input.old) (R.remaining input.new)
             output output (E.contents errors.old) (E.contents errors.new)) }
+        ensures unread { IfErr result (λ status. has_ended status ≡ false) }
     {
         let reading = read_input(self.alloc, self.limits, input);
         plan_after(self.alloc, self.limits, reading, errors)
+    }
+
+    /// Runs a plan on this thread without links. If progress is wanted, `errors` gets a line at the end of each round.
+    fn ran<E: Write>(&self, plan: &Plan, errors: &mut E) -> Result<Report, NetFault>
+        requires { IsInRange plan.now }
+        ensures report { IfOk result (IsReport plan.now) }
+        ensures memory { IfErr result (λ fault. number_of fault ≡ 24) }
+        ensures progress { HasProgress self.now.progress plan.now (is_ok result)
+            (E.contents errors.old) (E.contents errors.new) }
+    {
+        let mut progress = Progress {
+            errors,
+            alloc: self.alloc,
+            wanted: self.progress,
+            rounds: plan.rounds,
+        };
+        run_direct(self.alloc, plan, &mut progress)
     }
 
     /// Writes a text about the report of a run of this plan, which is in range, to the output. Where the run left no report,

@@ -1,8 +1,9 @@
 //! What results from the reading of an input: a plan to run, or how the program ends.
-ghost use Rattle.std.specs.Prelude.{◌≡◌, ◌≤◌, Err, IfOk, MatchResult, Ok, length};
+ghost use Rattle.std.specs.Prelude.{◌≡◌, ◌≤◌, Err, IfErr, IfOk, MatchResult, Ok, false, length};
 ghost use Rattle.gs_plan.specs.Limits.{longest_input};
 ghost use Rattle.gs_program.specs.Program.{TellsRefusal};
 ghost use Rattle.gs_program.specs.Endings.{EndsUnread, GoesOn, GoesOnWith};
+ghost use Rattle.gs_program.specs.Progress.{has_ended};
 
 use crate::program::ExitStatus;
 use crate::telling::tell_refusal;
@@ -23,9 +24,10 @@ pub fn plan_after<E: Write>(
     errors: &mut E,
 ) -> Result<Plan, ExitStatus>
     requires short { IfOk reading (λ text. length text.items ≤ longest_input limits) }
-    ensures { MatchResult reading
+    ensures goes_on { MatchResult reading
         (λ text. GoesOnWith limits text.items result (E.contents errors.old) (E.contents errors.new))
         (λ fault. EndsUnread limits fault result (E.contents errors.old) (E.contents errors.new)) }
+    ensures unread { IfErr result (λ status. has_ended status ≡ false) }
 {
     match reading {
         Ok(text) => go_on(alloc, plan_from(alloc, limits, &text), errors),
@@ -40,7 +42,8 @@ fn go_on<E: Write>(
     planned: Result<Plan, ScenarioFault>,
     errors: &mut E,
 ) -> Result<Plan, ExitStatus>
-    ensures { GoesOn planned result (E.contents errors.old) (E.contents errors.new) }
+    ensures goes_on { GoesOn planned result (E.contents errors.old) (E.contents errors.new) }
+    ensures unread { IfErr result (λ status. has_ended status ≡ false) }
 {
     match planned {
         Ok(plan) => Ok(plan),
@@ -55,7 +58,8 @@ fn end_unread<E: Write>(
     fault: ReadFault,
     errors: &mut E,
 ) -> Result<Plan, ExitStatus>
-    ensures { EndsUnread limits fault result (E.contents errors.old) (E.contents errors.new) }
+    ensures ends { EndsUnread limits fault result (E.contents errors.old) (E.contents errors.new) }
+    ensures unread { IfErr result (λ status. has_ended status ≡ false) }
 {
     match fault {
         ReadFault::Failed => {

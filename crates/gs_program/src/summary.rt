@@ -1,17 +1,23 @@
 //! A program that makes its text while a run goes on.
 ghost use Rattle.std.specs.Io.KnownBytes.{IsAtEnd};
-ghost use Rattle.std.specs.Prelude.{◌≡◌, false, IfErr, IfOk, List, OnOk, Option, ℕ};
+ghost use Rattle.std.specs.Prelude.{◌≡◌, false, IfErr, IfOk, is_ok, List, OnErr, OnOk, Option, ℕ};
 ghost use Rattle.std.specs.Process.{exit_status};
 ghost use Rattle.gs_plan.specs.Plans.{IsInRange};
 ghost use Rattle.gs_plan.specs.declared.plan.Plan.{Plan as PlanValue};
 ghost use Rattle.gs_report.specs.declared.report.Report.{Report as ReportValue};
+ghost use Rattle.gs_seats.specs.Reports.{IsReport};
 ghost use Rattle.gs_streams.specs.Inputs.{IsScenario};
-ghost use Rattle.gs_program.specs.Program.{EndsAs, EndsWith};
+ghost use Rattle.gs_direct.specs.Stages.{HasShownAll, Shows};
+ghost use Rattle.gs_direct.specs.declared.stages.Stage.{Stage as StageValue};
+ghost use Rattle.gs_program.specs.Program.{EndsAs};
+ghost use Rattle.gs_program.specs.Progress.{EndsShowing, ExitsShowing, HasProgress, has_ended};
 ghost use Rattle.gs_program.specs.Summaries.{IsSummary};
 
 use crate::program::ExitStatus;
+use crate::progress::Progress;
 use crate::reading::plan_after;
 use crate::telling::tell_fault;
+use gs_direct::Gauge;
 use gs_plan::{Limits, Plan};
 use gs_seats::NetFault;
 use gs_streams::{read_input, try_to_write, write_text};
@@ -24,13 +30,23 @@ pub trait Summarizer: Drop {
     // The text for the report of a plan's run.
     ghost text: { Self → PlanValue → ReportValue → List ℕ };
 
-    /// Runs a plan in range on this thread without links, and makes the text about its report.
+    /// Runs a plan in range on this thread without links, and makes the text about its report. A gauge shows how far the run
+    /// is, at the end of each round.
     ///
     /// # Errors
-    /// `AllocError` when out of memory.
-    fn summarize(&self, alloc: Global, plan: &Plan) -> Result<Vec<u8>, AllocError>
+    /// `AllocError` when out of memory. The gauge has shown some stages by then.
+    fn summarize<G: Gauge>(
+        &self,
+        alloc: Global,
+        plan: &Plan,
+        gauge: &mut G,
+    ) -> Result<Vec<u8>, AllocError>
         requires { IsInRange plan.now }
-        ensures { IfOk result (λ bytes. IsSummary (text self.now) plan.now bytes.items) };
+        ensures text { IfOk result (λ bytes. IsSummary (text self.now) plan.now bytes.items) }
+        ensures shown { IfOk result (λ bytes. (report : ReportValue)
+            × IsReport plan.now report × HasShownAll G.has_shown gauge.old gauge.new plan.now report) }
+        ensures stopped { OnErr result ((stages : List StageValue)
+            × Shows G.has_shown gauge.old gauge.new stages) };
 }
 
 /// A program that runs a scenario, and writes a text about the run that was made meanwhile.
@@ -40,19 +56,22 @@ pub struct SummaryProgram<S> {
     pub alloc: Global,
     /// How large a scenario may be.
     pub limits: Limits,
+    /// Whether `errors` gets a line at the end of each round.
+    pub progress: bool,
     /// Makes the text.
     pub summarizer: S,
 }
 
 impl<S: Summarizer> SummaryProgram<S> {
     /// Reads a scenario from the input, runs it on this thread without links, and then writes a text about its report to the
-    /// output. Where there is no text, a line on `errors`, or a front of it, says why.
+    /// output. Where there is no text, a line on `errors`, or a front of it, says why. If progress is wanted, `errors` has lines
+    /// about the run before that.
     pub fn run<R, W, E>(&self, input: &mut R, output: &mut W, errors: &mut E) -> ExitStatus
     where
         R: Read,
         W: Write,
         E: Write,
-        ensures { EndsAs self.now.limits (S.text self.now.summarizer) false false result
+        ensures { EndsShowing self.now.limits (S.text self.now.summarizer) false false self.now.progress result
             (R.remaining input.old) (R.remaining input.new)
             (W.contents output.old) (W.contents output.new) (E.contents errors.old) (E.contents errors.new) }
     {
@@ -68,7 +87,8 @@ impl<S: Summarizer> SummaryProgram<S> {
         R: Read,
         W: Write,
         E: Write,
-        ensures { EndsWith self.now.limits (S.text self.now.summarizer) false false (exit_status result)
+        ensures { ExitsShowing self.now.limits (S.text self.now.summarizer) false false self.now.progress
+            (exit_status result)
             (R.remaining input.old) (R.remaining input.new)
             (W.contents output.old) (W.contents output.new) (E.contents errors.old) (E.contents errors.new) }
     {
@@ -88,6 +108,7 @@ impl<S: Summarizer> SummaryProgram<S> {
             → EndsAs self.now.limits (S.text self.now.summarizer) false false status
             (R.remaining input.old) (R.remaining input.new)
             output output (E.contents errors.old) (E.contents errors.new)) }
+        ensures unread { IfErr result (λ status. has_ended status ≡ false) }
     {
         let reading = read_input(self.alloc, self.limits, input);
         plan_after(self.alloc, self.limits, reading, errors)
@@ -97,16 +118,32 @@ impl<S: Summarizer> SummaryProgram<S> {
     fn write<W: Write, E: Write>(&self, plan: &Plan, output: &mut W, errors: &mut E) -> ExitStatus
         requires { IsInRange plan.now }
         ensures { (input input' : Option (List ℕ)) → IsScenario self.now.limits input plan.now → IsAtEnd input'
-            → EndsAs self.now.limits (S.text self.now.summarizer) false false result input input'
+            → EndsShowing self.now.limits (S.text self.now.summarizer) false false self.now.progress result input input'
             (W.contents output.old) (W.contents output.new) (E.contents errors.old) (E.contents errors.new) }
     {
-        match self.summarizer.summarize(self.alloc, plan) {
+        match self.summarize(plan, errors) {
             Ok(text) => self.write_summary(plan, &text, output, errors),
             Err(_) => {
                 tell_fault(self.alloc, errors, plan, NetFault::NoMemory(None));
                 ExitStatus::RunRefused
             }
         }
+    }
+
+    /// Runs a plan, and makes the text about its report. If progress is wanted, `errors` gets a line at the end of each round.
+    fn summarize<E: Write>(&self, plan: &Plan, errors: &mut E) -> Result<Vec<u8>, AllocError>
+        requires { IsInRange plan.now }
+        ensures text { IfOk result (λ bytes. IsSummary (S.text self.now.summarizer) plan.now bytes.items) }
+        ensures progress { HasProgress self.now.progress plan.now (is_ok result)
+            (E.contents errors.old) (E.contents errors.new) }
+    {
+        let mut progress = Progress {
+            errors,
+            alloc: self.alloc,
+            wanted: self.progress,
+            rounds: plan.rounds,
+        };
+        self.summarizer.summarize(self.alloc, plan, &mut progress)
     }
 
     /// Writes the text about the report of a plan's run.

@@ -44,18 +44,6 @@ pub fn follower_of<'a>(
     Ok(follower)
 }
 
-/// Returns a watcher of a peer of a plan, which has seen no entry.
-///
-/// # Errors
-/// `AllocError` when out of memory.
-pub fn watcher_of(alloc: Global, plan: &Plan, number: PeerNo) -> Result<Watcher, AllocError>
-    requires { IsInRange plan.now }
-    ensures { IfOk result (λ watcher. Watches watcher (peer_in plan.now number) []) }
-{
-    let watcher = watcher_with(alloc, plan, number, neighbours_of(alloc, plan, number)?)?;
-    Ok(watcher)
-}
-
 /// Returns a watcher of a peer of a plan, which has seen no entry. It finds the peer's neighbours in what concerns each peer,
 /// and does not walk over the plan.
 ///

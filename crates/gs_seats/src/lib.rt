@@ -15,7 +15,7 @@ mod own;
 mod routers;
 
 pub use fault::NetFault;
-pub use followers::{follower_of, traces_of_a_report_are_in_order, watcher_among, watcher_of};
+pub use followers::{follower_of, traces_of_a_report_are_in_order, watcher_among};
 pub use lines::lines_by_peer;
 pub use lists_by_peer::{empty_lists, put_last, take_last, take_list};
 pub use neighbourhoods::Neighbourhoods;

@@ -1,5 +1,5 @@
 //! What in a plan concerns each peer, found for all peers at once.
-ghost use Rattle.std.specs.Prelude.{◌≡◌, ◌≤◌, ◌<◌, IfOk, length};
+ghost use Rattle.std.specs.Prelude.{◌≡◌, ◌<◌, IfOk, length};
 ghost use Rattle.gs_seats.specs.Own.{AreNeighbourhoods};
 ghost use Rattle.gs_seats.specs.Rounds.{neighbours_in};
 
@@ -7,7 +7,7 @@ use crate::lists_by_peer::list_of;
 use crate::neighbours::{neighbours_by, neighbours_of};
 use crate::own::{Own, own_by_peer};
 use gs_base::{Neighbour, PeerNo};
-use gs_plan::{App, Dial, Explicit, MOST_PEERS, Plan};
+use gs_plan::{App, Dial, Explicit, Plan};
 use std::alloc::{AllocError, Global};
 
 /// What in a plan concerns each peer, by number: its dials, the scores that its application gives, and its agreements.
@@ -48,8 +48,7 @@ impl Neighbourhoods {
         plan: &Plan,
         peer: PeerNo,
     ) -> Result<Vec<Neighbour>, AllocError>
-        requires range { length plan.now.peers ≤ MOST_PEERS }
-        requires sorted { AreNeighbourhoods plan.now self.now }
+        requires { AreNeighbourhoods plan.now self.now }
         ensures { IfOk result (λ found. found.items ≡ neighbours_in plan.now peer) }
     {
         if usize::from(peer.0) >= plan.peers.len() {

@@ -1,4 +1,4 @@
-ghost use Rattle.std.specs.Prelude.{◌≡◌, ◌≤◌, ◌<◌, IfOk, filter, length};
+ghost use Rattle.std.specs.Prelude.{◌≡◌, IfOk, filter};
 ghost use Rattle.gs_seats.specs.Own.{is_agreement_of, is_dial_of, is_score_of};
 ghost use Rattle.gs_seats.specs.Rounds.{address_of, neighbours_in};
 
@@ -7,7 +7,7 @@ use crate::known::Known;
 use crate::own::{Own, own_of};
 use bytes::Bytes;
 use gs_base::{Neighbour, PeerNo};
-use gs_plan::{MOST_PEERS, Plan};
+use gs_plan::Plan;
 use std::alloc::{AllocError, Global};
 
 /// Returns the neighbours of a peer, ascending: those that it dials, and those that dial it. It walks over all dials, scores
@@ -16,7 +16,6 @@ use std::alloc::{AllocError, Global};
 /// # Errors
 /// `AllocError` when out of memory.
 pub fn neighbours_of(alloc: Global, plan: &Plan, peer: PeerNo) -> Result<Vec<Neighbour>, AllocError>
-    requires { length plan.now.peers ≤ MOST_PEERS }
     ensures { IfOk result (λ found. found.items ≡ neighbours_in plan.now peer) }
 {
     let dials = own_of(alloc, plan.dials.as_slice(), peer)?;

@@ -4,8 +4,9 @@ use crate::arguments::{Asked, Named, asked_by};
 use std::alloc::{AllocError, Global};
 use std::test::*;
 
-const USAGE: &str =
-    "usage: gossip_stats [--large] [--by PEERS|--rounds|--topics|--links] [--of PEERS] [--group NAME=PEERS].. [--csv|--json]\n";
+pub const USAGE: &str =
+    "usage: gossip_stats [--large] [--progress] [--by PEERS|--rounds|--topics|--links] [--of PEERS] \
+    [--group NAME=PEERS].. [--csv|--json]\n";
 
 /// Arguments, and what they ask for: the publishers, the peers, the subject, the form and the groups.
 struct Case {

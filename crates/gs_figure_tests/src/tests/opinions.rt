@@ -5,3 +5,4 @@ mod made;
 mod moments;
 mod pairs;
 mod texts;
+mod watcher;

@@ -22,7 +22,8 @@ pub(crate) fn are_in_order(peers: &[(PeerNo, Finished)]) -> bool
     true
 }
 
-fn is_in_order(entries: &[StoredEntry]) -> bool
+/// Says whether no entry is earlier than the one before it.
+pub(crate) fn is_in_order(entries: &[StoredEntry]) -> bool
     ensures { result ≡ true → AreInOrder (reverse entries.now) }
 {
     let mut latest = 0;

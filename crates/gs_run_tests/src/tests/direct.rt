@@ -1,11 +1,11 @@
 //! Reports of runs on one thread, compared with reports that were worked out by hand.
 use gs_base::PeerNo;
-use gs_direct::{run_direct, run_observed};
+use gs_direct::{Gauge, NoGauge, Stage, run_direct, run_observed};
 use gs_plan::Limits;
 use gs_report::report_text;
 use gs_rules::StoredEntry;
 use gs_scenario::read_plan;
-use gs_seats::Observer;
+use gs_seats::{Nobody, Observer};
 use std::alloc::{AllocError, AllocGlobal};
 use std::test::*;
 
@@ -149,7 +149,7 @@ fn is_reported<R: AllocGlobal>(rt: &R, lines: &str, text: &str) -> Result<bool, 
     let Ok(plan) = read_plan(rt.alloc(), Limits::Standard, &scenario) else {
         return Ok(false);
     };
-    let Ok(report) = run_direct(rt.alloc(), &plan) else {
+    let Ok(report) = run_direct(rt.alloc(), &plan, &mut NoGauge) else {
         return Ok(false);
     };
     Ok(report_text(rt.alloc(), &plan, &report)?.as_slice() == text.as_bytes())
@@ -209,7 +209,7 @@ fn observed<R: AllocGlobal>(
         return Ok(None);
     };
     let mut deliveries = Deliveries(Vec::new(rt.alloc()));
-    let Ok(remains) = run_observed(rt.alloc(), &plan, &mut deliveries) else {
+    let Ok(remains) = run_observed(rt.alloc(), &plan, &mut deliveries, &mut NoGauge) else {
         return Ok(None);
     };
     let mut members = Vec::new(rt.alloc());
@@ -239,5 +239,56 @@ fn an_observer_sees_each_peer_in_each_round(rt: HostRuntime) -> Result<(), Fail>
     assert!(rt; deliveries.0.as_slice() == wanted);
     assert!(rt; members.as_slice() == [1, 1, 0].as_slice());
     assert!(rt; scored.as_slice() == [2, 1, 1].as_slice());
+    Ok(())
+}
+
+/// The stages that a gauge has shown: the round, and how much was delivered.
+#[derive(Drop)]
+struct Stages(Vec<(u64, u64)>);
+
+impl Gauge for Stages {
+    ghost Start = { Unit {0} };
+
+    ghost has_shown = { λ stages start shown. Unit {0} };
+
+    fn show(&mut self, stage: Stage) {
+        let _ = self.0.push((stage.round, stage.deliveries));
+    }
+}
+
+/// In round 8, `c` delivers both messages that it publishes. The last delivery is in round 13 of 15.
+const STAGES: &[(u64, u64)] = &[
+    (0, 0),
+    (1, 0),
+    (2, 0),
+    (3, 0),
+    (4, 0),
+    (5, 0),
+    (6, 0),
+    (7, 0),
+    (8, 2),
+    (9, 3),
+    (10, 4),
+    (11, 4),
+    (12, 5),
+    (13, 6),
+    (14, 6),
+    (15, 6),
+];
+
+#[test]
+fn a_gauge_shows_each_round(rt: HostRuntime) -> Result<(), Fail> {
+    let mut scenario = String::from_str(rt.alloc(), THREE)?;
+    scenario.push_str(GARBAGE)?;
+    let Ok(plan) = read_plan(rt.alloc(), Limits::Standard, &scenario) else {
+        assert!(rt; false);
+        return Ok(());
+    };
+    let mut direct = Stages(Vec::new(rt.alloc()));
+    assert!(rt; run_direct(rt.alloc(), &plan, &mut direct).is_ok());
+    assert!(rt; direct.0.as_slice() == STAGES);
+    let mut observed = Stages(Vec::new(rt.alloc()));
+    assert!(rt; run_observed(rt.alloc(), &plan, &mut Nobody, &mut observed).is_ok());
+    assert!(rt; observed.0.as_slice() == STAGES);
     Ok(())
 }

@@ -1,6 +1,4 @@
 //! The neighbours of peers, where a plan's dials, scores and agreements were sorted by peer.
-ghost use Rattle.std.specs.Prelude.{◌≤◌, IfOk, length};
-ghost use Rattle.gs_plan.specs.declared.limits.TheConstants.{MOST_PEERS as most};
 
 use super::*;
 use bytes::Bytes;
@@ -17,9 +15,7 @@ static DIALS: [(u16, u16); 5] = [(1, 3), (0, 1), (1, 2), (2, 1), (1, 2)];
 /// Each score: its giver, its receiver, and its value in millionths.
 static APPS: [(u16, u16, i64); 3] = [(1, 0, -7), (0, 1, 5_000_000), (1, 3, 8)];
 
-fn peers(alloc: Global) -> Result<Seq<PlannedPeer>, AllocError>
-    ensures { IfOk result (λ peers. length peers ≤ most) }
-{
+fn peers(alloc: Global) -> Result<Seq<PlannedPeer>, AllocError> {
     let mut peers = Seq::new(alloc);
     for address in &ADDRESSES {
         peers.push(PlannedPeer {
@@ -32,9 +28,7 @@ fn peers(alloc: Global) -> Result<Seq<PlannedPeer>, AllocError>
 }
 
 /// Peer 1 has a peering agreement with 2, which has none with 1.
-fn plan(alloc: Global) -> Result<Plan, AllocError>
-    ensures { IfOk result (λ plan. length plan.peers ≤ most) }
-{
+fn plan(alloc: Global) -> Result<Plan, AllocError> {
     let peers = peers(alloc)?;
     let mut dials = Seq::new(alloc);
     for (from, to) in &DIALS {

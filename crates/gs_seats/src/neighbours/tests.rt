@@ -1,6 +1,4 @@
 //! The neighbours of peers in a plan, and what each peer is given about them.
-ghost use Rattle.std.specs.Prelude.{◌≤◌, IfOk, length};
-ghost use Rattle.gs_plan.specs.declared.limits.TheConstants.{MOST_PEERS as most};
 
 use super::*;
 use gs_base::{Seq, Text};
@@ -17,9 +15,7 @@ fn peer(alloc: Global, name: &str, address: &str) -> Result<PlannedPeer, AllocEr
 
 /// Peer 0 dials 1 and is dialled by 2. Peers 0 and 1 have one address, and their applications score each other. Peer 0 has a
 /// peering agreement with 2, which has none with 0.
-fn plan(alloc: Global) -> Result<Plan, AllocError>
-    ensures { IfOk result (λ plan. length plan.peers ≤ most) }
-{
+fn plan(alloc: Global) -> Result<Plan, AllocError> {
     let mut peers = Seq::new(alloc);
     peers.push(peer(alloc, "a", "ten")?)?;
     peers.push(peer(alloc, "b", "ten")?)?;

@@ -1,17 +1,42 @@
 //! Counts of a run as a text: a line for each row in which something stands, with its kinds in order. After the lines of
 //! links it says how many bytes went to each peer, and how many of those are raw.
 ghost use Rattle.std.specs.Prelude.{IfOk};
+ghost use Rattle.gs_counts.specs.Counting.{HasCounted};
 ghost use Rattle.gs_plan.specs.Plans.{IsInRange};
+ghost use Rattle.gs_plan.specs.declared.plan.Plan.{Plan as PlanValue};
+ghost use Rattle.gs_reach.specs.declared.chosen.Chosen.{Chosen as ChosenValue};
 
 use crate::tests::counts::cases::Case;
 use crate::tests::counts::made::report_of;
-use crate::tests::order::are_in_order;
-use gs_counts::{Counts, Kind, RunCounts, no_counts, over_links, run_counts};
+use crate::tests::observing::show_all;
+use gs_base::PeerNo;
+use gs_counts::{Counting, Counts, Kind, LinkCounts, RunCounts, no_counts};
 use gs_plan::{Limits, Plan};
 use gs_reach::Chosen;
-use gs_report::Report;
+use gs_report::{Finished, Remains, Report};
+use gs_rules::StoredEntry;
 use gs_scenario::read_plan;
+use gs_seats::Observer;
 use std::alloc::{AllocError, Global};
+
+/// An observer that counts what it sees of a run of this plan.
+#[derive(Drop)]
+struct CountingRun<'a> {
+    plan: &'a Plan,
+    counting: Counting,
+}
+
+impl<'a> Observer for CountingRun<'a> {
+    ghost Question = { PlanValue };
+
+    ghost question = { λ run. run.plan.now };
+
+    ghost saw = { λ run traces. (of : ChosenValue) × HasCounted run.plan.now of run.counting traces };
+
+    fn see(&mut self, peer: PeerNo, entries: &[StoredEntry]) -> Result<(), AllocError> {
+        self.counting.see(peer, entries)
+    }
+}
 
 fn plan_of(alloc: Global, scenario: &str) -> Result<Plan, AllocError>
     ensures { IfOk result (λ plan. IsInRange plan) }
@@ -67,8 +92,8 @@ fn push_links(alloc: Global, text: &mut Vec<u8>, all: &RunCounts) -> Result<(), 
 /// Adds how many bytes went to each peer, and how many of those are raw.
 fn push_heard(alloc: Global, text: &mut Vec<u8>, all: &RunCounts) -> Result<(), AllocError> {
     for row in all.peers.as_slice() {
-        let bytes = over_links(all.links.as_slice(), row.peer, Kind::BytesSent);
-        let raw = over_links(all.links.as_slice(), row.peer, Kind::RawBytesSent);
+        let bytes = sent_to(all.links.as_slice(), row.peer, Kind::BytesSent);
+        let raw = sent_to(all.links.as_slice(), row.peer, Kind::RawBytesSent);
         if bytes > 0 {
             let line = format!(in alloc; "to {} {}", row.peer.0, bytes)?;
             text.extend_from_slice(line.as_bytes())?;
@@ -76,6 +101,17 @@ fn push_heard(alloc: Global, text: &mut Vec<u8>, all: &RunCounts) -> Result<(), 
         }
     }
     Ok(())
+}
+
+/// How much of a kind went over the links to a peer.
+fn sent_to(links: &[LinkCounts], peer: PeerNo, kind: Kind) -> u64 {
+    let mut sum: u64 = 0;
+    for link in links {
+        if link.to == peer {
+            sum = sum.saturating_add(link.counts.of(kind));
+        }
+    }
+    sum
 }
 
 fn push_raw(alloc: Global, text: &mut Vec<u8>, raw: u64) -> Result<(), AllocError> {
@@ -132,20 +168,46 @@ fn text_of(alloc: Global, all: &RunCounts) -> Result<Vec<u8>, AllocError> {
     Ok(text)
 }
 
-/// The text of a run's counts, where its traces are in order.
-fn counted(alloc: Global, plan: &Plan, report: &Report, of: &Chosen) -> Result<Vec<u8>, AllocError>
+/// What a run leaves of these peers besides their traces.
+fn remains_of(
+    alloc: Global,
+    peers: Vec<(PeerNo, Finished)>,
+) -> Result<Vec<(PeerNo, Remains)>, AllocError> {
+    let mut remains = Vec::new(alloc);
+    for (number, life) in peers {
+        let Finished {
+            trace,
+            refused,
+            meshes,
+            scores,
+        } = life;
+        drop(trace);
+        let left = Remains {
+            refused,
+            meshes,
+            scores,
+        };
+        remains.push((number, left))?;
+    }
+    Ok(remains)
+}
+
+/// The counts of a run, whose traces are in order.
+fn counted(alloc: Global, plan: &Plan, report: Report, of: &Chosen) -> Result<RunCounts, AllocError>
     requires { IsInRange plan.now }
 {
-    if !are_in_order(&report.peers) {
-        return Err(AllocError);
-    }
-    let counts = run_counts(alloc, plan, report, of)?;
-    text_of(alloc, &counts)
+    let counting = Counting::new(alloc, plan, of)?;
+    let mut observer = CountingRun { plan, counting };
+    show_all(&mut observer, &report.peers)?;
+    let remains = remains_of(alloc, report.peers)?;
+    let CountingRun { plan: _, counting } = observer;
+    counting.counts(alloc, plan, &remains)
 }
 
 /// The text of the counts of a case, where only what the traces of some peers say counts.
 pub(crate) fn told(alloc: Global, case: &Case, of: &Chosen) -> Result<Vec<u8>, AllocError> {
     let plan = plan_of(alloc, case.scenario)?;
     let report = report_of(alloc, case.lives)?;
-    counted(alloc, &plan, &report, of)
+    let counts = counted(alloc, &plan, report, of)?;
+    text_of(alloc, &counts)
 }

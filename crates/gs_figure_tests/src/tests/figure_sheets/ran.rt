@@ -3,12 +3,10 @@ ghost use Rattle.std.specs.Prelude.{IfOk};
 ghost use Rattle.gs_plan.specs.Plans.{IsInRange};
 
 use crate::tests::figure_sheets::told::{names_in, told};
-use crate::tests::order::are_in_order;
 use gs_base::Seq;
-use gs_direct::run_direct;
-use gs_figure_sheets::{Choice, Group, Layout, Subject, Wanted, figure_sheets};
+use gs_direct::{NoGauge, run_observed};
+use gs_figure_sheets::{Choice, Gathering, Group, Inquiry, Layout, Subject, Wanted};
 use gs_plan::{Limits, Plan};
-use gs_report::Report;
 use gs_scenario::read_plan;
 use gs_sheets::{Sheet, sheets_table};
 use std::alloc::{AllocError, Global};
@@ -35,15 +33,6 @@ fn plan_of(alloc: Global, scenario: &str) -> Result<Plan, AllocError>
     }
 }
 
-fn report_of(alloc: Global, plan: &Plan) -> Result<Report, AllocError>
-    requires { IsInRange plan.now }
-{
-    match run_direct(alloc, plan) {
-        Ok(report) => Ok(report),
-        Err(_) => Err(AllocError),
-    }
-}
-
 fn choice_of(words: Option<&'static str>) -> Choice<'static> {
     match words {
         Some(words) => Choice::Named(words),
@@ -65,27 +54,23 @@ fn wanted_of(alloc: Global, case: &Case, layout: Layout) -> Result<Wanted<'stati
     })
 }
 
-/// Returns the sheets of a run that are wanted, if its traces are in order.
-fn sheets_of(
-    alloc: Global,
-    plan: &Plan,
-    report: &Report,
-    wanted: &Wanted<'_>,
-) -> Result<Seq<Sheet>, AllocError>
+/// Returns the sheets of a run that are wanted.
+fn sheets_of(alloc: Global, plan: &Plan, wanted: &Wanted<'_>) -> Result<Seq<Sheet>, AllocError>
     requires { IsInRange plan.now }
 {
-    if !are_in_order(&report.peers) {
-        return Err(AllocError);
+    let inquiry = Inquiry::of(alloc, plan, wanted)?;
+    let mut gathering = Gathering::new(alloc, plan, &inquiry)?;
+    match run_observed(alloc, plan, &mut gathering, &mut NoGauge) {
+        Ok(remains) => gathering.sheets(alloc, remains),
+        Err(_) => Err(AllocError),
     }
-    figure_sheets(alloc, plan, report, wanted)
 }
 
 /// Returns the sheets of a run of a case.
 fn run_of(alloc: Global, case: &Case, layout: Layout) -> Result<Seq<Sheet>, AllocError> {
     let plan = plan_of(alloc, case.scenario)?;
-    let report = report_of(alloc, &plan)?;
     let wanted = wanted_of(alloc, case, layout)?;
-    sheets_of(alloc, &plan, &report, &wanted)
+    sheets_of(alloc, &plan, &wanted)
 }
 
 fn written(alloc: Global, sheets: &Seq<Sheet>, layout: Layout) -> Result<Vec<u8>, AllocError> {

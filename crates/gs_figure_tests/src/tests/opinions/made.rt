@@ -1,10 +1,10 @@
 //! Traces that are made by hand.
 use bytes::Bytes;
-use gs_base::{Mark, Millis, PeerNo, Rpc, Seq, Shared, Topic};
+use gs_base::{Mark, Millis, MsgId, PeerNo, Rpc, Seq, Shared, Topic};
 use gs_plan::Act;
 use gs_reach::Chosen;
 use gs_report::{Finished, Report};
-use gs_rules::{BeatStep, Effects, Entry, Event, Loss, Trace};
+use gs_rules::{BeatStep, Effects, Entry, Event, Loss, Promise, Trace};
 use std::alloc::{AllocError, Global};
 
 /// What an entry is. Neighbours are given by their numbers.
@@ -17,6 +17,8 @@ pub(crate) enum Did {
     Shuts,
     /// A round ends, and a neighbour misbehaves in it this many times.
     Blames(u16, u8),
+    /// A neighbour promises a message up to this moment.
+    Promises(u16, u64),
     Hears(u16),
     HearsLate(u16),
     Mends,
@@ -47,6 +49,7 @@ fn event_of(alloc: Global, did: Did) -> Result<Event, AllocError> {
         Did::Blames(_, _) => Ok(Event::RoundEnd(0)),
         Did::Hears(q) => Ok(Event::Heard(PeerNo(q), rpc(alloc)?)),
         Did::HearsLate(q) => Ok(Event::Late(PeerNo(q), rpc(alloc)?)),
+        Did::Promises(_, _) => Ok(Event::Step(BeatStep::MeshBeat(topic(alloc)?))),
         Did::Mends => Ok(Event::Step(BeatStep::MeshBeat(topic(alloc)?))),
         Did::Joins => Ok(Event::Own(Shared::new(alloc, Act::Subscribe(topic(alloc)?))?)),
         Did::Loses(q) => Ok(Event::Lost(PeerNo(q), Loss::Gone)),
@@ -69,20 +72,36 @@ fn marks_of(alloc: Global, did: Did) -> Result<Seq<Mark>, AllocError> {
     }
 }
 
+fn promised_by(alloc: Global, did: Did) -> Result<Option<Shared<Promise>>, AllocError> {
+    match did {
+        Did::Promises(from, until) => {
+            let promise = Promise {
+                from: PeerNo(from),
+                id: MsgId([0x5a; 32]),
+                until: Millis(until),
+            };
+            Ok(Some(Shared::new(alloc, promise)?))
+        }
+        _ => Ok(None),
+    }
+}
+
 fn entry(alloc: Global, at: u64, did: Did) -> Result<Entry, AllocError> {
     let event = event_of(alloc, did)?;
     let marks = marks_of(alloc, did)?;
+    let promise = promised_by(alloc, did)?;
     Ok(Entry {
         at: Millis(at),
         event,
         effects: Effects {
             marks,
+            promise,
             ..Effects::none(alloc)
         },
     })
 }
 
-fn trace_of(alloc: Global, life: Life) -> Result<Trace, AllocError> {
+pub(crate) fn trace_of(alloc: Global, life: Life) -> Result<Trace, AllocError> {
     let mut trace = Trace::new(alloc);
     for (at, did) in life {
         trace.push(entry(alloc, *at, *did)?)?;

@@ -1,17 +1,43 @@
 //! The lowest opinions of a run as a text: a line for each pair, and one for each round.
-ghost use Rattle.std.specs.Prelude.{IfOk};
+ghost use Rattle.std.specs.Prelude.{IfOk, List};
+ghost use Rattle.gs_opinions.specs.Judging.{HasJudged};
 ghost use Rattle.gs_plan.specs.Plans.{IsInRange};
+ghost use Rattle.gs_plan.specs.declared.plan.Plan.{Plan as PlanValue};
+ghost use Rattle.gs_reach.specs.declared.chosen.Chosen.{Chosen as ChosenValue};
 
+use crate::tests::observing::show_all;
 use crate::tests::opinions::cases::Case;
 use crate::tests::opinions::made::{chosen, groups_of, report_of};
-use crate::tests::order::are_in_order;
-use gs_opinions::{Opinions, opinions_of};
+use gs_base::PeerNo;
+use gs_opinions::{Judging, Opinions};
 use gs_plan::{Limits, Plan};
 use gs_report::Report;
+use gs_rules::StoredEntry;
 use gs_scenario::read_plan;
+use gs_seats::Observer;
 use std::alloc::{AllocError, Global};
 
-fn plan_of(alloc: Global, scenario: &str) -> Result<Plan, AllocError>
+/// An observer that notes the opinions that it sees in a run of this plan.
+#[derive(Drop)]
+struct JudgingRun<'a> {
+    plan: &'a Plan,
+    judging: Judging<'a>,
+}
+
+impl<'a> Observer for JudgingRun<'a> {
+    ghost Question = { PlanValue };
+
+    ghost question = { λ run. run.plan.now };
+
+    ghost saw = { λ run traces. (of : ChosenValue) × (groups : List ChosenValue)
+        × HasJudged run.plan.now of groups run.judging traces };
+
+    fn see(&mut self, peer: PeerNo, entries: &[StoredEntry]) -> Result<(), AllocError> {
+        self.judging.see(peer, entries)
+    }
+}
+
+pub(crate) fn plan_of(alloc: Global, scenario: &str) -> Result<Plan, AllocError>
     ensures { IfOk result (λ plan. IsInRange plan) }
 {
     match read_plan(alloc, Limits::Standard, scenario) {
@@ -59,27 +85,27 @@ fn text_of(alloc: Global, all: &Opinions) -> Result<Vec<u8>, AllocError> {
     Ok(text)
 }
 
-/// The text of a run's opinions, where its traces are in order.
+/// The lowest opinions of a run, whose traces are in order.
 fn summed_up(
     alloc: Global,
     plan: &Plan,
     report: &Report,
     case: &Case,
-) -> Result<Vec<u8>, AllocError>
+) -> Result<Opinions, AllocError>
     requires { IsInRange plan.now }
 {
-    if !are_in_order(&report.peers) {
-        return Err(AllocError);
-    }
     let of = chosen(alloc, case.of)?;
     let groups = groups_of(alloc, case.groups)?;
-    let opinions = opinions_of(alloc, plan, report, &of, &groups)?;
-    text_of(alloc, &opinions)
+    let judging = Judging::new(alloc, plan, &of, &groups)?;
+    let mut observer = JudgingRun { plan, judging };
+    show_all(&mut observer, &report.peers)?;
+    observer.judging.opinions(alloc, plan)
 }
 
 /// The text of a case.
 pub(crate) fn text_of_case(alloc: Global, case: &Case) -> Result<Vec<u8>, AllocError> {
     let plan = plan_of(alloc, case.scenario)?;
     let report = report_of(alloc, case.lives)?;
-    summed_up(alloc, &plan, &report, case)
+    let opinions = summed_up(alloc, &plan, &report, case)?;
+    text_of(alloc, &opinions)
 }

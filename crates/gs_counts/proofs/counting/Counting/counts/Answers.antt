@@ -1,6 +1,6 @@
 use Rattle.std.proofs.Common.{◌++◌, List, Option, length, subst, sym}
-use Rattle.gs_counts.specs.declared.traces.Seat.{Seat}
-use Rattle.gs_counts.specs.Counting.{AreSeats, seated_refusals, seen_happenings, seen_sizes}
+use Rattle.gs_counts.specs.declared.traces.PeerCounter.{PeerCounter}
+use Rattle.gs_counts.specs.Counting.{AreCounters, counted_refusals, seen_happenings, seen_sizes}
 use Rattle.gs_counts.proofs.Left.{left_shown}
 use Rattle.gs_counts.proofs.counting.Counting.counts.Goals as goal
 
@@ -12,7 +12,7 @@ rows_of-requires-clause-shown c =
     let has = c.requires.counted.2 in
     let hs = seen_happenings plan of traces in
     let sizes = seen_sizes plan of traces in
-    (hs ++ seated_refusals c.deref.result.now c.args.remains.now, sizes, c.in_ok-note_remains.ensures plan hs sizes has.shows)
+    (hs ++ counted_refusals c.deref.result.now c.args.remains.now, sizes, c.in_ok-note_remains.ensures plan hs sizes has.shows)
 
 pub returns : goal.returns
 returns c = λ of traces report has lives is.
@@ -20,4 +20,4 @@ returns c = λ of traces report has lives is.
     let hs = seen_happenings plan of traces in
     let sizes = seen_sizes plan of traces in
     c.in_ok-counts.ensures _ _
-    (left_shown plan of traces c.deref.result.now (subst (λ (seats : List (Option Seat)). AreSeats (length plan.peers) plan of seats traces) (sym c.deref.ensures.value) has.seats) report.peers.items c.args.remains.now c.note_remains.new.tables lives is (c.in_ok-note_remains.ensures plan hs sizes has.shows))
+    (left_shown plan of traces c.deref.result.now (subst (λ (counters : List (Option PeerCounter)). AreCounters (length plan.peers) plan of counters traces) (sym c.deref.ensures.value) has.counters) report.peers.items c.args.remains.now c.note_remains.new.tables lives is (c.in_ok-note_remains.ensures plan hs sizes has.shows))

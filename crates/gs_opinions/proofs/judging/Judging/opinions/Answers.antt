@@ -1,7 +1,7 @@
 use Rattle.std.proofs.Common.{ap, ◌∙◌}
 use Rattle.gs_opinions.specs.Judging.{opinions_in}
 use Rattle.gs_opinions.specs.Runs.{lowest_opinions}
-use Rattle.gs_opinions.proofs.Seated.{all_lived}
+use Rattle.gs_opinions.proofs.Judges.{all_lived}
 use Rattle.gs_opinions.proofs.judging.Judging.opinions.Goals as goal
 
 pub rows_of-requires-clause-shown : goal.rows_of-requires-clause-shown

@@ -4,7 +4,7 @@ use Rattle.gs_rules.specs.declared.trace.Entry.{Entry}
 use Rattle.gs_rules.specs.Tables.{Entries}
 use Rattle.gs_opinions.specs.Noting.{Shows}
 use Rattle.gs_opinions.specs.Opinions.{later_opinions}
-use Rattle.gs_opinions.specs.Reading.{HasSeen, ShowsMore}
+use Rattle.gs_opinions.specs.Reading.{IsJudgeAfter, ShowsMore}
 use Rattle.gs_opinions.proofs.Reading.{next_later, next_opinions, next_seen, ordered_onto}
 use Rattle.gs_opinions.proofs.traces.Judge.see.Goals as goal
 
@@ -38,7 +38,7 @@ loop-entry-preserved c = λ plan p L seen order.
     let is = c.entry-item.is in
     let so_far = c.loop-entry.invariant plan p L seen order in
     let told = c.in_ok-see_one.ensures plan p (reverse (take i es) ++ L) so_far.0 (next_later es i e L low is order) in (
-      subst (λ (M : Entries). HasSeen plan p c.see_one.new.self M) (next_seen es i e L low is) told.0,
+      subst (λ (M : Entries). IsJudgeAfter plan p c.see_one.new.self M) (next_seen es i e L low is) told.0,
       λ groups os was.
           subst (Shows plan groups c.see_one.new.tables) (next_opinions plan p es i e L os low is)
           (told.1 groups (os ++ later_opinions plan p (take i es) L) (so_far.1 groups os was)),
@@ -48,6 +48,6 @@ pub returns : goal.returns
 returns c = λ plan p L seen.
     let first = c.requires.3 in
     let order = ordered_onto (reverse c.args.entries.now) c.requires.2 L (sym first.last ∙ seen.last) seen.order c.requires.4 in
-    subst (λ (es : List Entry). HasSeen plan p c.loop-entry.self (reverse es ++ L) × ShowsMore plan c.args.tables.now c.loop-entry.tables (later_opinions plan p es L))
+    subst (λ (es : List Entry). IsJudgeAfter plan p c.loop-entry.self (reverse es ++ L) × ShowsMore plan c.args.tables.now c.loop-entry.tables (later_opinions plan p es L))
     (take_all c.loop-entry.entry-index c.args.entries.now c.loop-entry-test.false)
     (c.loop-entry.invariant plan p L seen order)
