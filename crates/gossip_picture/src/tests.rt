@@ -10,6 +10,7 @@ use std::test::*;
 
 mod arguments;
 mod courses;
+mod crowds;
 
 /// What each picture without names along the radius begins with.
 const OPENING: &str = "\
@@ -315,12 +316,17 @@ fn is_made_of(text: &[u8], parts: &[&str]) -> bool {
 
 /// The picture of a scenario that is asked for, and nothing where the run does not end with 0.
 fn drawn(alloc: Global, scenario: &str, asked: Asked<'_>) -> Vec<u8> {
+    drawn_within(alloc, Limits::Standard, scenario, asked)
+}
+
+/// The same, within some limits.
+fn drawn_within(alloc: Global, limits: Limits, scenario: &str, asked: Asked<'_>) -> Vec<u8> {
     let mut output = Vec::new(alloc);
     let mut errors = Vec::new(alloc);
     let mut input = scenario.as_bytes();
     let program = Program {
         alloc,
-        limits: Limits::Standard,
+        limits,
         progress: false,
         printer: PictureOf { asked },
     };

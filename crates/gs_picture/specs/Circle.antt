@@ -9,9 +9,9 @@ use Rattle.gs_picture.specs.declared.discs.Class.TheVariants.{Fair, BelowZero, B
 use Rattle.gs_picture.specs.declared.discs.Disc.{Disc}
 use Rattle.gs_picture.specs.declared.edges.Edge.{Edge}
 use Rattle.gs_picture.specs.declared.places.Point.{Point}
-use Rattle.gs_picture.specs.Places.{degrees, label_radius, most_level, most_named, on_circle, radius_of}
+use Rattle.gs_picture.specs.Places.{are_named, degrees, label_radius, most_level, on_circle, radius_of}
 use Rattle.gs_picture.specs.Texts.{escaped_all, place_text}
-use Rattle.gs_picture.specs.declared.pieces.Piece.TheVariants.{EdgeBegins, EdgeFrom, EdgeTo, PathEnds, DiscBegins, MarkPlace, DiscMark, DiscEnds, NameBegins, NameTurn, NameText, TagEnds, TextEnds}
+use Rattle.gs_picture.specs.declared.pieces.Piece.TheVariants.{EdgeBegins, EdgeFrom, EdgeTo, PathEnds, DiscBegins, MarkPlace, DiscMark, DiscEnds, DotRadius, DotEnds, NameBegins, NameTurn, NameText, TagEnds, TextEnds}
 use Rattle.gs_picture.specs.declared.pieces.Part.TheVariants.{CrowdBegins, GroupEnds}
 use Rattle.gs_picture.specs.Pieces.{part, piece}
 
@@ -63,13 +63,28 @@ abbrev pub filling : Bool → List ℕ
 filling true = []
 filling false = codes " off"
 
-abbrev pub disc_at : Point → Class → Bool → List ℕ
-disc_at p class subscribed =
+abbrev pub disc_begins : Point → Class → Bool → List ℕ
+disc_begins p class subscribed =
     piece DiscBegins ++ class_name class ++ filling subscribed ++ piece MarkPlace ++ place_text p
-    ++ piece DiscMark ++ class_mark class ++ piece DiscEnds
+
+-- how a large disc ends, which has a mark
+abbrev pub marked : Class → List ℕ
+marked class = piece DiscMark ++ class_mark class ++ piece DiscEnds
+
+-- how a disc ends that has no mark
+abbrev pub unmarked_disc : ℕ → List ℕ
+unmarked_disc radius = piece DotRadius ++ decimal radius ++ piece DotEnds
+
+-- how large discs are where there are too many peers for names
+abbrev pub dot_radius : ℕ → ℕ
+dot_radius count = if nat_le count 256 then 3 else 2
+
+-- where there are too many peers for names, discs are small and have no marks
+abbrev pub disc_ends : ℕ → Class → List ℕ
+disc_ends count class = if are_named count then marked class else unmarked_disc (dot_radius count)
 
 abbrev pub disc_text : ℕ → Disc → List ℕ
-disc_text count d = disc_at (stands count d.peer) d.class d.subscribed
+disc_text count d = disc_begins (stands count d.peer) d.class d.subscribed ++ disc_ends count d.class
 
 -- ---- names
 
@@ -96,20 +111,20 @@ label_text plan count d = label_at (nat_le count most_level) (degrees count d.pe
 
 -- the names of all discs, or none where there are too many
 abbrev pub labels_text : Plan → ℕ → List Disc → List ℕ
-labels_text plan count discs = if nat_le count most_named then flat_map (label_text plan count) discs else []
+labels_text plan count discs = if are_named count then flat_map (label_text plan count) discs else []
 
 -- ---- many peers
 
--- how small discs are, and how faint edges
+-- how faint edges are
 abbrev pub crowd_kind : ℕ → List ℕ
 crowd_kind count = if nat_le count 256 then codes "hundreds" else codes "thousands"
 
 -- where there are too many peers for names, a group around edges and discs
 abbrev pub crowd_begins : ℕ → List ℕ
-crowd_begins count = if nat_le count most_named then [] else part CrowdBegins ++ crowd_kind count ++ piece TagEnds
+crowd_begins count = if are_named count then [] else part CrowdBegins ++ crowd_kind count ++ piece TagEnds
 
 abbrev pub crowd_ends : ℕ → List ℕ
-crowd_ends count = if nat_le count most_named then [] else part GroupEnds
+crowd_ends count = if are_named count then [] else part GroupEnds
 
 -- ---- the circle
 

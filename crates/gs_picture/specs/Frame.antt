@@ -3,10 +3,10 @@ use Rattle.std.specs.Prelude.{ℕ, ◌*◌, ◌||◌, max, min, nat_le, nat_lt, 
 use Rattle.gs_base.specs.declared.names.Topic.{Topic}
 use Rattle.gs_plan.specs.declared.plan.Plan.{Plan}
 use Rattle.gs_plan.specs.declared.plan.PlannedPeer.{PlannedPeer}
-use Rattle.gs_picture.specs.Places.{most_level, most_named}
+use Rattle.gs_picture.specs.Places.{are_named, most_level, most_named}
 use Rattle.gs_picture.specs.Texts.{escaped_all}
 use Rattle.gs_picture.specs.declared.pieces.Piece.TheVariants.{TextEnds}
-use Rattle.gs_picture.specs.declared.pieces.Part.TheVariants.{Opening, ViewBox, OpeningEnds, TitleBegins, Peers, Rounds, Messages, GroupBegins, GroupPlaced}
+use Rattle.gs_picture.specs.declared.pieces.Part.TheVariants.{Opening, OpeningTall, ViewBox, ViewBoxTall, OpeningEnds, TitleBegins, Peers, Rounds, Messages, GroupBegins, GroupPlaced}
 use Rattle.gs_picture.specs.Pieces.{part, piece}
 
 -- how many bytes the longest name has
@@ -24,10 +24,14 @@ room_of plan = room (length plan.peers) (longest_name plan.peers)
 abbrev pub height : ℕ
 height = 990
 
-abbrev pub opening : ℕ → List ℕ
-opening tall =
-    part Opening ++ decimal tall ++ part ViewBox
-    ++ decimal tall ++ part OpeningEnds
+-- how wide it is: where there are too many peers for names, a table stands next to the chart
+unfoldable pub width : ℕ → ℕ
+width count = if are_named count then 920 else 1_200
+
+unfoldable pub opening : ℕ → ℕ → List ℕ
+opening wide tall =
+    part Opening ++ decimal wide ++ part OpeningTall ++ decimal tall
+    ++ part ViewBox ++ decimal wide ++ part ViewBoxTall ++ decimal tall ++ part OpeningEnds
 
 -- the topic, and how many peers, rounds and drawn messages there are
 abbrev pub title_text : Plan → Topic → ℕ → List ℕ

@@ -8,5 +8,6 @@ pub mod Pieces
 pub mod Circle
 pub mod Legend
 pub mod Chart
+pub mod Table
 pub mod Frame
 pub mod Picture

@@ -13,14 +13,17 @@ use Rattle.gs_picture.specs.Circle.{circle_text}
 use Rattle.gs_picture.specs.Courses.{courses_of, on_topic}
 use Rattle.gs_picture.specs.Discs.{discs}
 use Rattle.gs_picture.specs.Edges.{edges}
-use Rattle.gs_picture.specs.Frame.{height, lowered, opening, room_of, title_text}
+use Rattle.gs_picture.specs.Frame.{height, lowered, opening, room_of, title_text, width}
 use Rattle.gs_picture.specs.Legend.{legend_text}
 use Rattle.gs_picture.specs.declared.pieces.Part.TheVariants.{GroupEnds, PictureEnds}
 use Rattle.gs_picture.specs.Pieces.{part, style_text}
+use Rattle.gs_picture.specs.Places.{are_named}
+use Rattle.gs_picture.specs.Table.{table_text}
 
 -- what stands above the circle
 unfoldable pub upper_text : Plan → Topic → ℕ → List ℕ
-upper_text plan t messages = opening (height + 2 * room_of plan) ++ style_text ++ title_text plan t messages
+upper_text plan t messages =
+    opening (width (length plan.peers)) (height + 2 * room_of plan) ++ style_text ++ title_text plan t messages
 
 -- the circle, by the scores that some peers give
 unfoldable pub middle_text : Plan → Report → Topic → Chosen → List ℕ
@@ -31,7 +34,8 @@ middle_text plan report t of =
 -- what stands below the circle, with the names of those peers
 unfoldable pub lower_text : Plan → Option (List ℕ) → Courses → List ℕ
 lower_text plan names c =
-    part GroupEnds ++ lowered (2 * room_of plan) ++ legend_text names ++ chart_text names c ++ part PictureEnds
+    part GroupEnds ++ lowered (2 * room_of plan) ++ legend_text (are_named (length plan.peers)) names ++ chart_text names c
+    ++ table_text (are_named (length plan.peers)) c.all ++ part PictureEnds
 
 -- the picture by the scores that some peers give, and by the courses of messages to them
 abbrev pub picture_by : Plan → Report → Topic → Option (List ℕ) → Chosen → Courses → List ℕ

@@ -1,9 +1,9 @@
 -- The fixed texts of a picture.
 use Rattle.std.specs.Prelude.{ℕ, ◌++◌, List, codes}
 use Rattle.gs_picture.specs.declared.pieces.Piece.{Piece}
-use Rattle.gs_picture.specs.declared.pieces.Piece.TheVariants.{EdgeBegins, EdgeFrom, EdgeTo, PathEnds, DiscBegins, MarkPlace, DiscMark, DiscEnds, NameBegins, NameTurn, NameText, TextEnds, WordsAcross, WordsDown, TagEnds, LegendHead, LegendHeadEnds}
+use Rattle.gs_picture.specs.declared.pieces.Piece.TheVariants.{EdgeBegins, EdgeFrom, EdgeTo, PathEnds, DiscBegins, MarkPlace, DiscMark, DiscEnds, DotRadius, DotEnds, NameBegins, NameTurn, NameText, TextEnds, WordsAcross, WordsDown, TagEnds, LegendHead, LegendHeadEnds}
 use Rattle.gs_picture.specs.declared.pieces.Part.{Part}
-use Rattle.gs_picture.specs.declared.pieces.Part.TheVariants.{Opening, ViewBox, OpeningEnds, TitleBegins, Peers, Rounds, Messages, GroupBegins, GroupPlaced, GroupEnds, CrowdBegins, PictureEnds, ChartHead, ChartHeadEnds, MissedBegins, MissedOf, MissedEnds, LevelBegins, LevelLabel, LevelEnds, TickBegins, TickLabel, TickText, CourseBegins, CourseLine, CourseEnds}
+use Rattle.gs_picture.specs.declared.pieces.Part.TheVariants.{Opening, OpeningTall, ViewBox, ViewBoxTall, OpeningEnds, TitleBegins, Peers, Rounds, Messages, GroupBegins, GroupPlaced, GroupEnds, CrowdBegins, PictureEnds, ChartHead, ChartHeadEnds, MissedBegins, MissedOf, MissedEnds, LevelBegins, LevelLabel, LevelEnds, TickBegins, TickLabel, TickText, CourseBegins, CourseLine, CourseEnds, TableHead, TableHeadEnds, RowBegins, RowBar, RowBarTo, RowReached, RowShare, RowEnds}
 
 -- in the circle and the legend
 unfoldable pub piece : Piece → List ℕ
@@ -15,6 +15,8 @@ piece DiscBegins = codes "<g class=\"disc "
 piece MarkPlace = codes "\" transform=\"translate("
 piece DiscMark = codes ")\"><circle r=\"9\"/><text y=\"4\">"
 piece DiscEnds = codes "</text></g>\n"
+piece DotRadius = codes ")\"><circle r=\""
+piece DotEnds = codes "\"/></g>\n"
 piece NameBegins = codes "<text class=\"name "
 piece NameTurn = codes ") rotate("
 piece NameText = codes ")\" y=\"4\">"
@@ -25,10 +27,12 @@ piece TagEnds = codes "\">"
 piece LegendHead = codes "<text class=\"head\" x=\"60\" y=\"590\">Each disc is a peer, by the lowest score that a neighbour"
 piece LegendHeadEnds = codes " gives it at the end</text>\n"
 
--- around the circle, and in the chart
+-- around the circle, in the chart, and next to it
 unfoldable pub part : Part → List ℕ
-part Opening = codes "<svg xmlns=\"http://www.w3.org/2000/svg\" width=\"920\" height=\""
-part ViewBox = codes "\" viewBox=\"0 0 920 "
+part Opening = codes "<svg xmlns=\"http://www.w3.org/2000/svg\" width=\""
+part OpeningTall = codes "\" height=\""
+part ViewBox = codes "\" viewBox=\"0 0 "
+part ViewBoxTall = codes " "
 part OpeningEnds = codes "\">\n"
 part TitleBegins = codes "<text class=\"title middle\" x=\"460\" y=\"32\">Topic "
 part Peers = codes "</text>\n<text class=\"middle\" x=\"460\" y=\"52\">peers: "
@@ -38,9 +42,9 @@ part GroupBegins = codes "<g transform=\"translate(0 "
 part GroupPlaced = codes ")\">\n"
 part GroupEnds = codes "</g>\n"
 part CrowdBegins =
-    codes "<style>\n.crowd .disc circle{stroke-width:.5}\n.crowd text{display:none}\n.crowd path{marker-end:none}\n"
-    ++ codes ".hundreds .disc circle{r:3px}\n.hundreds path{stroke-opacity:.4}\n"
-    ++ codes ".thousands .disc circle{r:2px}\n.thousands path{stroke-opacity:.05}\n</style>\n<g class=\"crowd "
+    codes "<style>\n.crowd .disc circle{stroke-width:.5}\n.crowd path{marker-end:none}\n"
+    ++ codes ".hundreds path{stroke-opacity:.4}\n.thousands path{stroke-opacity:.05}\n.bar{stroke-width:9}\n</style>\n"
+    ++ codes "<g class=\"crowd "
 part PictureEnds = codes "</g>\n</svg>\n"
 part ChartHead = codes "<text class=\"head\" x=\"60\" y=\"700\">Share of the subscribers"
 part ChartHeadEnds = codes " that each message reached</text>\n"
@@ -56,6 +60,14 @@ part TickText = codes "\" y=\"958\">"
 part CourseBegins = codes "<path class=\"course "
 part CourseLine = codes "\" d=\"M60 940"
 part CourseEnds = codes "H860\"/>\n"
+part TableHead = codes "<text class=\"head\" x=\"900\" y=\""
+part TableHeadEnds = codes "\">Pairs reached within a number of rounds</text>\n"
+part RowBegins = codes "<text class=\"end\" x=\"950\" y=\""
+part RowBar = codes "</text><path class=\"course bar\" d=\"M960 "
+part RowBarTo = codes "h"
+part RowReached = codes "\"/><text x=\"1070\" y=\""
+part RowShare = codes " ("
+part RowEnds = codes "%)</text>\n"
 
 -- the rest of the legend, the words at the axes of the chart, and the style
 unfoldable pub legend_words : List ℕ
@@ -66,6 +78,18 @@ legend_words =
     ++ codes "each has the other in its mesh</text>\n"
     ++ codes "<path class=\"tail\" d=\"M576 660H592\"/><path class=\"tip\" d=\"M592 655L602 660L592 665z\"/>"
     ++ codes "<text x=\"605\" y=\"664\">the tail alone has the head in its mesh</text>\n"
+
+-- the same where there are too many peers for names: lines have no arrowheads, and discs no marks
+unfoldable pub crowd_words : List ℕ
+crowd_words =
+    codes "<text class=\"middle\" x=\"460\" y=\"562\">Peers stand clockwise from the top in the order of the scenario, "
+    ++ codes "without names. Lines are faint, so a dark place has many.</text>\n"
+    ++ codes "<g class=\"disc off\" transform=\"translate(69 660)\"><circle r=\"9\"/></g><text x=\"85\" y=\"664\">"
+    ++ codes "hollow: not subscribed to the topic</text>\n"
+    ++ codes "<path class=\"both\" d=\"M316 660H340\"/><text x=\"345\" y=\"664\">"
+    ++ codes "each has the other in its mesh</text>\n"
+    ++ codes "<path class=\"tail\" d=\"M576 660H600\"/><text x=\"605\" y=\"664\">"
+    ++ codes "only one has the other in its mesh</text>\n"
 
 unfoldable pub chart_words : List ℕ
 chart_words =

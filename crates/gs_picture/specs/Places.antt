@@ -1,5 +1,5 @@
 -- Where peers stand on the circle. The picture's units are whole, from the left and from above.
-use Rattle.std.specs.Prelude.{ℕ, ◌+◌, ◌-◌, ◌*◌, ◌/◌, ◌%◌, max, nat_le, if◌then◌else◌, List, [], ◌∷◌, slice_get, unwrap_or}
+use Rattle.std.specs.Prelude.{ℕ, Bool, ◌+◌, ◌-◌, ◌*◌, ◌/◌, ◌%◌, max, nat_le, if◌then◌else◌, List, [], ◌∷◌, slice_get, unwrap_or}
 use Rattle.gs_base.specs.declared.names.PeerNo.{PeerNo}
 use Rattle.gs_picture.specs.declared.places.Point.{Point}
 
@@ -24,6 +24,9 @@ most_level = 16
 -- names stand next to discs where there are up to this many peers; discs are small where there are more
 abbrev pub most_named : ℕ
 most_named = 64
+
+abbrev pub are_named : ℕ → Bool
+are_named count = nat_le count most_named
 
 -- How far the disc of a peer is from the centre, of `count` peers. There is one more circle for each 360 peers. Each is 10 units
 -- within the one before it, and peers stand on them in turn.

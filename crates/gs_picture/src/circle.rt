@@ -1,13 +1,15 @@
 //! The texts of what stands on and in the circle.
 ghost use Rattle.std.specs.Prelude.{◌≡◌, ◌++◌, length, OnOk};
 ghost use Rattle.std.specs.List.{flat_map};
-ghost use Rattle.gs_picture.specs.Circle.{anchor, circle_text, class_mark, class_name, class_words, crowd_begins, crowd_ends, crowd_kind, disc_at, disc_text, edge_kind, edge_text, filling, label_at, label_text, labels_text, outward, stands, turn};
+ghost use Rattle.gs_picture.specs.Circle.{anchor, circle_text, class_mark, class_name, class_words, crowd_begins, crowd_ends, crowd_kind, disc_begins, disc_ends, disc_text, dot_radius, edge_kind, edge_text, filling, label_at, label_text, labels_text, marked, outward, stands, turn, unmarked_disc};
 
 use crate::discs::{Class, Disc};
 use crate::edges::Edge;
 use crate::pen::{push, push_name, push_number, push_place};
 use crate::pieces::{Part, Piece, push_part, push_piece};
-use crate::places::{LABEL_RADIUS, MOST_LEVEL, MOST_NAMED, Point, degrees, on_circle, radius_of};
+use crate::places::{
+    LABEL_RADIUS, MOST_LEVEL, MOST_NAMED, Point, are_named, degrees, on_circle, radius_of,
+};
 use gs_base::PeerNo;
 use gs_plan::Plan;
 use gs_report::name_of;
@@ -33,7 +35,7 @@ pub(crate) fn push_circle(
     push_labels(alloc, text, plan, count, discs)
 }
 
-/// Begins a group of small discs and faint edges, if there are too many peers for names.
+/// Begins a group of discs and faint edges, if there are too many peers for names.
 fn begin_crowd(text: &mut Vec<u8>, count: usize) -> Result<(), AllocError>
     ensures { OnOk result (text.new.items ≡ text.old.items ++ crowd_begins count) }
 {
@@ -45,7 +47,7 @@ fn begin_crowd(text: &mut Vec<u8>, count: usize) -> Result<(), AllocError>
     push_piece(text, Piece::TagEnds)
 }
 
-/// How small discs are, and how faint edges.
+/// How faint edges are.
 fn crowd_kind(count: usize) -> &'static str
     ensures { result.now ≡ crowd_kind count }
 {
@@ -151,28 +153,69 @@ fn edge_kind(both: bool) -> &'static str
 fn push_disc(alloc: Global, text: &mut Vec<u8>, count: usize, disc: Disc) -> Result<(), AllocError>
     ensures { OnOk result (text.new.items ≡ text.old.items ++ disc_text count disc) }
 {
-    let place = stands(count, disc.peer);
-    push_disc_at(alloc, text, place, disc.class, disc.subscribed)
+    begin_disc(
+        alloc,
+        text,
+        stands(count, disc.peer),
+        disc.class,
+        disc.subscribed,
+    )?;
+    end_disc(alloc, text, count, disc.class)
 }
 
-/// Adds the disc of a class at a place.
-pub(crate) fn push_disc_at(
+/// Begins the disc of a class at a place.
+pub(crate) fn begin_disc(
     alloc: Global,
     text: &mut Vec<u8>,
     place: Point,
     class: Class,
     subscribed: bool,
 ) -> Result<(), AllocError>
-    ensures { OnOk result (text.new.items ≡ text.old.items ++ disc_at place class subscribed) }
+    ensures { OnOk result (text.new.items ≡ text.old.items ++ disc_begins place class subscribed) }
 {
     push_piece(text, Piece::DiscBegins)?;
     push(text, class_name(class))?;
     push(text, filling(subscribed))?;
     push_piece(text, Piece::MarkPlace)?;
-    push_place(alloc, text, place)?;
+    push_place(alloc, text, place)
+}
+
+/// Ends the disc of a class, of this many peers. It is small and has no mark if peers have no names.
+fn end_disc(alloc: Global, text: &mut Vec<u8>, count: usize, class: Class) -> Result<(), AllocError>
+    ensures { OnOk result (text.new.items ≡ text.old.items ++ disc_ends count class) }
+{
+    if are_named(count) {
+        return end_marked(text, class);
+    }
+    end_unmarked(alloc, text, dot_radius(count))
+}
+
+/// How large discs without marks are, of this many peers.
+fn dot_radius(count: usize) -> u8
+    ensures { result ≡ dot_radius count }
+{
+    if count > 256 {
+        return 2;
+    }
+    3
+}
+
+/// Ends a large disc, with the mark of its class.
+pub(crate) fn end_marked(text: &mut Vec<u8>, class: Class) -> Result<(), AllocError>
+    ensures { OnOk result (text.new.items ≡ text.old.items ++ marked class) }
+{
     push_piece(text, Piece::DiscMark)?;
     push(text, class_mark(class))?;
     push_piece(text, Piece::DiscEnds)
+}
+
+/// Ends a disc of this radius, without a mark.
+pub(crate) fn end_unmarked(alloc: Global, text: &mut Vec<u8>, radius: u8) -> Result<(), AllocError>
+    ensures { OnOk result (text.new.items ≡ text.old.items ++ unmarked_disc radius) }
+{
+    push_piece(text, Piece::DotRadius)?;
+    push_number(alloc, text, u128::from(radius))?;
+    push_piece(text, Piece::DotEnds)
 }
 
 /// The name of a class in the style.

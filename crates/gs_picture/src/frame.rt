@@ -1,10 +1,10 @@
 //! What stands around the circle and the chart.
-ghost use Rattle.std.specs.Prelude.{◌≡◌, ◌++◌, OnOk};
-ghost use Rattle.gs_picture.specs.Frame.{longest_name, lowered, opening, room, room_of, title_text};
+ghost use Rattle.std.specs.Prelude.{◌≡◌, ◌++◌, OnOk, decimal};
+ghost use Rattle.gs_picture.specs.Frame.{longest_name, lowered, opening, room, room_of, title_text, width};
 
 use crate::pen::{push_name, push_number};
 use crate::pieces::{Part, Piece, push_part, push_piece};
-use crate::places::{MOST_LEVEL, MOST_NAMED};
+use crate::places::{MOST_LEVEL, MOST_NAMED, are_named};
 use gs_base::Topic;
 use gs_plan::{Plan, PlannedPeer};
 use std::alloc::{AllocError, Global};
@@ -35,13 +35,41 @@ fn longest_name(peers: &[PlannedPeer]) -> usize
     so_far
 }
 
-/// Adds the beginning of a picture of this height.
-pub(crate) fn push_opening(alloc: Global, text: &mut Vec<u8>, tall: u128) -> Result<(), AllocError>
-    ensures { OnOk result (text.new.items ≡ text.old.items ++ opening tall) }
+/// How wide a picture of this many peers is. A table stands next to the chart if they have no names.
+#[tactic(auto, unfolding(crate::specs::Frame::width))]
+fn width(count: usize) -> u128
+    ensures { result ≡ width count }
+{
+    if are_named(count) {
+        return 920;
+    }
+    1_200
+}
+
+/// Adds how wide a picture of this many peers is.
+fn push_width(alloc: Global, text: &mut Vec<u8>, count: usize) -> Result<(), AllocError>
+    ensures { OnOk result (text.new.items ≡ text.old.items ++ decimal (width count)) }
+{
+    push_number(alloc, text, width(count))
+}
+
+/// Adds the beginning of a picture of this many peers, with this height.
+#[tactic(auto, unfolding(crate::specs::Frame::opening))]
+pub(crate) fn push_opening(
+    alloc: Global,
+    text: &mut Vec<u8>,
+    count: usize,
+    tall: u128,
+) -> Result<(), AllocError>
+    ensures { OnOk result (text.new.items ≡ text.old.items ++ opening (width count) tall) }
 {
     push_part(text, Part::Opening)?;
+    push_width(alloc, text, count)?;
+    push_part(text, Part::OpeningTall)?;
     push_number(alloc, text, tall)?;
     push_part(text, Part::ViewBox)?;
+    push_width(alloc, text, count)?;
+    push_part(text, Part::ViewBoxTall)?;
     push_number(alloc, text, tall)?;
     push_part(text, Part::OpeningEnds)
 }

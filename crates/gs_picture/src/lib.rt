@@ -14,6 +14,7 @@ mod pen;
 mod picture;
 mod pieces;
 mod places;
+mod table;
 mod topic;
 
 pub use laws::the_thick_line_is_of_all_thin_ones;

@@ -11,6 +11,8 @@ use crate::edges::edges;
 use crate::frame::{push_lowered, push_opening, push_title, room_of};
 use crate::legend::push_legend;
 use crate::pieces::{Part, push_part, push_style};
+use crate::places::are_named;
+use crate::table::push_table;
 use gs_base::Topic;
 use gs_figure_sheets::{Choice, chosen_by};
 use gs_plan::Plan;
@@ -53,7 +55,7 @@ fn push_upper(
     ensures { OnOk result (text.new.items ≡ text.old.items ++ upper_text plan.now topic.now messages) }
 {
     let tall = 990 + 2 * u128::from(room_of(plan));
-    push_opening(alloc, text, tall)?;
+    push_opening(alloc, text, plan.peers.len(), tall)?;
     push_style(text)?;
     push_title(alloc, text, plan, topic, messages)
 }
@@ -88,9 +90,11 @@ fn push_lower(
 ) -> Result<(), AllocError>
     ensures { OnOk result (text.new.items ≡ text.old.items ++ lower_text plan.now (spelled of.entry) courses.now) }
 {
+    let named = are_named(plan.peers.len());
     push_part(text, Part::GroupEnds)?;
     push_lowered(alloc, text, 2 * u128::from(room_of(plan)))?;
-    push_legend(alloc, text, of)?;
+    push_legend(alloc, text, named, of)?;
     push_chart(alloc, text, of, courses)?;
+    push_table(alloc, text, named, courses.all.as_slice())?;
     push_part(text, Part::PictureEnds)
 }

@@ -1,6 +1,6 @@
 //! The fixed texts of a picture.
 ghost use Rattle.std.specs.Prelude.{◌≡◌, ◌++◌, OnOk};
-ghost use Rattle.gs_picture.specs.Pieces.{chart_words, legend_words, part, piece, style_text};
+ghost use Rattle.gs_picture.specs.Pieces.{chart_words, crowd_words, legend_words, part, piece, style_text};
 
 use crate::pen::push;
 use std::alloc::AllocError;
@@ -13,6 +13,17 @@ const LEGEND_WORDS: &str = "\
     <path class=\"tail\" d=\"M576 660H592\"/>\
     <path class=\"tip\" d=\"M592 655L602 660L592 665z\"/>\
     <text x=\"605\" y=\"664\">the tail alone has the head in its mesh</text>\n";
+
+const CROWD_WORDS: &str = "\
+    <text class=\"middle\" x=\"460\" y=\"562\">\
+    Peers stand clockwise from the top in the order of the scenario, without names. \
+    Lines are faint, so a dark place has many.</text>\n\
+    <g class=\"disc off\" transform=\"translate(69 660)\"><circle r=\"9\"/></g>\
+    <text x=\"85\" y=\"664\">hollow: not subscribed to the topic</text>\n\
+    <path class=\"both\" d=\"M316 660H340\"/>\
+    <text x=\"345\" y=\"664\">each has the other in its mesh</text>\n\
+    <path class=\"tail\" d=\"M576 660H600\"/>\
+    <text x=\"605\" y=\"664\">only one has the other in its mesh</text>\n";
 
 const CHART_WORDS: &str = "\
     <path class=\"course few\" d=\"M60 718H84\"/>\
@@ -69,16 +80,14 @@ text,.off text{fill:#e6edf3}
 <rect class=\"back\" width=\"100%\" height=\"100%\"/>
 ";
 
-/// The style of small discs and faint edges, and the beginning of their group.
+/// The style of small discs, faint edges and bars, and the beginning of the group of these discs and edges.
 const CROWD: &str = "\
 <style>
 .crowd .disc circle{stroke-width:.5}
-.crowd text{display:none}
 .crowd path{marker-end:none}
-.hundreds .disc circle{r:3px}
 .hundreds path{stroke-opacity:.4}
-.thousands .disc circle{r:2px}
 .thousands path{stroke-opacity:.05}
+.bar{stroke-width:9}
 </style>
 <g class=\"crowd ";
 
@@ -93,6 +102,8 @@ pub(crate) enum Piece {
     MarkPlace,
     DiscMark,
     DiscEnds,
+    DotRadius,
+    DotEnds,
     NameBegins,
     NameTurn,
     NameText,
@@ -104,11 +115,13 @@ pub(crate) enum Piece {
     LegendHeadEnds,
 }
 
-/// A text around the circle, or in the chart.
+/// A text around the circle, in the chart or next to it.
 #[derive(Clone, Copy, Debug, PartialEq, Eq)]
 pub(crate) enum Part {
     Opening,
+    OpeningTall,
     ViewBox,
+    ViewBoxTall,
     OpeningEnds,
     TitleBegins,
     Peers,
@@ -133,6 +146,14 @@ pub(crate) enum Part {
     CourseBegins,
     CourseLine,
     CourseEnds,
+    TableHead,
+    TableHeadEnds,
+    RowBegins,
+    RowBar,
+    RowBarTo,
+    RowReached,
+    RowShare,
+    RowEnds,
 }
 
 #[tactic(auto, unfolding(crate::specs::Pieces::piece))]
@@ -148,6 +169,8 @@ fn piece_text(one: Piece) -> &'static str
         Piece::MarkPlace => "\" transform=\"translate(",
         Piece::DiscMark => ")\"><circle r=\"9\"/><text y=\"4\">",
         Piece::DiscEnds => "</text></g>\n",
+        Piece::DotRadius => ")\"><circle r=\"",
+        Piece::DotEnds => "\"/></g>\n",
         Piece::NameBegins => "<text class=\"name ",
         Piece::NameTurn => ") rotate(",
         Piece::NameText => ")\" y=\"4\">",
@@ -167,8 +190,10 @@ fn text_of(one: Part) -> &'static str
     ensures { result.now ≡ part one }
 {
     match one {
-        Part::Opening => "<svg xmlns=\"http://www.w3.org/2000/svg\" width=\"920\" height=\"",
-        Part::ViewBox => "\" viewBox=\"0 0 920 ",
+        Part::Opening => "<svg xmlns=\"http://www.w3.org/2000/svg\" width=\"",
+        Part::OpeningTall => "\" height=\"",
+        Part::ViewBox => "\" viewBox=\"0 0 ",
+        Part::ViewBoxTall => " ",
         Part::OpeningEnds => "\">\n",
         Part::TitleBegins => "<text class=\"title middle\" x=\"460\" y=\"32\">Topic ",
         Part::Peers => "</text>\n<text class=\"middle\" x=\"460\" y=\"52\">peers: ",
@@ -193,6 +218,14 @@ fn text_of(one: Part) -> &'static str
         Part::CourseBegins => "<path class=\"course ",
         Part::CourseLine => "\" d=\"M60 940",
         Part::CourseEnds => "H860\"/>\n",
+        Part::TableHead => "<text class=\"head\" x=\"900\" y=\"",
+        Part::TableHeadEnds => "\">Pairs reached within a number of rounds</text>\n",
+        Part::RowBegins => "<text class=\"end\" x=\"950\" y=\"",
+        Part::RowBar => "</text><path class=\"course bar\" d=\"M960 ",
+        Part::RowBarTo => "h",
+        Part::RowReached => "\"/><text x=\"1070\" y=\"",
+        Part::RowShare => " (",
+        Part::RowEnds => "%)</text>\n",
     }
 }
 
@@ -203,7 +236,7 @@ pub(crate) fn push_piece(text: &mut Vec<u8>, one: Piece) -> Result<(), AllocErro
     push(text, piece_text(one))
 }
 
-/// Adds a text that stands around the circle, or in the chart.
+/// Adds a text that stands around the circle, in the chart or next to it.
 pub(crate) fn push_part(text: &mut Vec<u8>, one: Part) -> Result<(), AllocError>
     ensures { OnOk result (text.new.items ≡ text.old.items ++ part one) }
 {
@@ -216,6 +249,14 @@ pub(crate) fn push_legend_words(text: &mut Vec<u8>) -> Result<(), AllocError>
     ensures { OnOk result (text.new.items ≡ text.old.items ++ legend_words) }
 {
     push(text, LEGEND_WORDS)
+}
+
+/// Adds the same where peers have no names. Lines then have no arrowheads, and discs no marks.
+#[tactic(auto, unfolding(crate::specs::Pieces::crowd_words))]
+pub(crate) fn push_crowd_words(text: &mut Vec<u8>) -> Result<(), AllocError>
+    ensures { OnOk result (text.new.items ≡ text.old.items ++ crowd_words) }
+{
+    push(text, CROWD_WORDS)
 }
 
 /// Adds the words at the axes of the chart.

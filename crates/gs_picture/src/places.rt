@@ -1,6 +1,6 @@
 //! Where peers stand on the circle.
 ghost use Rattle.std.specs.Prelude.{◌≡◌, slice_get, unwrap_or};
-ghost use Rattle.gs_picture.specs.Places.{degrees, label_radius, leg, on_circle, radius_of, sine};
+ghost use Rattle.gs_picture.specs.Places.{are_named, degrees, label_radius, leg, on_circle, radius_of, sine};
 
 use gs_base::PeerNo;
 
@@ -15,6 +15,13 @@ pub(crate) const MOST_LEVEL: usize = 16;
 
 /// Names stand next to discs where there are up to this many peers. Discs are small where there are more.
 pub(crate) const MOST_NAMED: usize = 64;
+
+/// Whether names stand next to discs, of this many peers.
+pub(crate) fn are_named(count: usize) -> bool
+    ensures { result ≡ are_named count }
+{
+    count <= MOST_NAMED
+}
 
 /// A place in the picture: its distance from the left and from above.
 #[derive(Clone, Copy, Debug, PartialEq, Eq)]
