@@ -39,6 +39,33 @@ def take_all(top, names):
     return [it.name for it in crates if it.name in names and not it.is_program and not take(rt, kept, it)]
 
 
+def is_there(crate):
+    """Whether the library of a crate stands in its out/, made of the crate's sources as they are."""
+    stamp = f"{crate.folder}/out/rlib/stamp"
+    if not os.path.exists(stamp):
+        return False
+    with open(stamp, encoding="utf-8") as stream:
+        return stream.read() == crate.stamp()
+
+
+def take_missing(top, names):
+    """Takes the kept libraries of these crates that are not there, lowest first. Returns the crates whose libraries are there."""
+    rt, there = code_of_rt(), set()
+    rt.Crate.allowed = rt.handles_of(top)
+    crates = rt.crates_of(top)
+    kept = rt.Kept(crates)
+    for it in crates:
+        if it.name not in names or it.is_program:
+            continue
+        if is_there(it):
+            # (rt asks this of the crates below, before it looks for what is kept of those above)
+            kept.is_built(it)
+            there.add(it.name)
+        elif take(rt, kept, it):
+            there.add(it.name)
+    return there
+
+
 def crates_of(top):
     """The crates of a repository as rt sees them, the lowest first."""
     code_of_rt()
