@@ -38,8 +38,17 @@ def words_of(number, last, deliveries, elapsed):
 
 
 def write(to, text):
-    while text:
-        text = text[os.write(to, text) :]
+    """Writes a text. A standard error that fails changes nothing, and a standard output that fails ends this."""
+    try:
+        while text:
+            text = text[os.write(to, text) :]
+    except OSError:
+        if to == 1:
+            raise OutputFailed from None
+
+
+class OutputFailed(Exception):
+    """The text of the program can't be passed on."""
 
 
 class Bottom:
@@ -113,7 +122,12 @@ def main(words):
     # (the program ends at an interrupt, and this one after it)
     with subprocess.Popen(words, stdout=output, stderr=subprocess.PIPE) as program:
         signal.signal(signal.SIGINT, signal.SIG_IGN)
-        follow(program, bottom)
+        try:
+            follow(program, bottom)
+        except OutputFailed:
+            program.kill()
+            write(2, b"output failed\n")
+            return 3
     status = program.returncode
     return status if status >= 0 else 128 - status
 

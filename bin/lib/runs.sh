@@ -24,6 +24,11 @@ print_options() {
   --until ROUND     up to this round, or to a time, such as "150 s": the scenario is cut there, and later lines are left out
   --large           takes up to 4,096 peers and 64 MiB, instead of 64 peers and 8 MiB
   --words           says why a scenario is refused, and in which line, in words on standard error, as on a terminal
+END
+  [ -z "${can_progress-}" ] || cat <<'END'
+  --progress        writes a line about each round to standard error. A terminal shows how far a run is without this option
+END
+  cat <<END
   --proved          runs only proved programs
   --help, -h        prints this
   --version, -V     prints the commit and the Rattle kit
@@ -85,6 +90,10 @@ parse() {
       --help | -h) usage && exit ;;
       --version | -V) version && exit ;;
       --words) has_words=yes ;;
+      --progress)
+        [ -n "${can_progress-}" ] || stop 64 'there is no option --progress; --help says which there are'
+        has_progress=yes
+        ;;
       --proved) is_strict=yes ;;
       --large) large=(--large) ;;
       --workers=* | --capacity=* | --seed=*) edits+=("${1#--}") ;;
@@ -128,11 +137,14 @@ call() {
   return "$status"
 }
 
-# Runs `program` with `arguments`. Where it can write how far its run is, and standard error is a terminal, that is shown there.
+# Runs `program` with `arguments`. If it can write how far its run is, that is shown where standard error is a terminal, and
+# written elsewhere only if it is asked for.
 call_shown() {
   local options=("${large[@]}") shower=()
-  if [ -n "$has_progress" ] && [ -t 2 ] && command -v python3 >/dev/null; then
+  if [ -n "${can_progress-}" ] && [ -t 2 ] && command -v python3 >/dev/null; then
     options+=(--progress) shower=(python3 "$top/bin/lib/progress.py")
+  elif [ -n "$has_progress" ]; then
+    options+=(--progress)
   fi
   call "$program" "${options[@]}" "${arguments[@]}"
 }

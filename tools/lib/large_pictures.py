@@ -11,7 +11,7 @@ BAR = re.compile(r'<path class="course bar" d="M960 (\d+)h(\d+)"/>')
 # All words between the title and the chart: no names, no marks in discs, and nothing about arrowheads.
 LEGEND = [
     "Each disc is a peer, by the lowest score that a neighbour gives it at the end",
-    "Peers stand clockwise from the top in the order of the scenario, without names. Lines are faint, so a dark place has many.",
+    "Peers stand clockwise from the top in the order of the scenario, without names. Lines are faint, so a dense place has many.",
     "hollow: not subscribed to the topic",
     "each has the other in its mesh",
     "only one has the other in its mesh",

@@ -55,7 +55,7 @@ with_peers() {
 
 # Statuses, what a strict parser reads, and the pictures of the book.
 check_pictures() {
-  local file name many svg='{http://www.w3.org/2000/svg}svg' usage='usage: gossip_picture [--large] [--of PEERS] [TOPIC]'
+  local file name many svg='{http://www.w3.org/2000/svg}svg' usage='usage: gossip_picture [--large] [--progress] [--of PEERS] [TOPIC]'
   local disc='Each disc is a peer, by the lowest score that a neighbour' gives='gives it at the end' share='Share of the subscribers'
   expect 'two topics to draw' 64 '' "$usage" picture_of "$example" news olds
   expect 'no peers to draw by' 64 '' "$usage" picture_of "$example" --of

@@ -39,4 +39,4 @@ asked_for (x ∷ y ∷ z ∷ other ∷ more) = None
 
 -- the line that is written for wrong arguments
 unfoldable pub usage : List ℕ
-usage = codes "usage: gossip_picture [--large] [--of PEERS] [TOPIC]\n"
+usage = codes "usage: gossip_picture [--large] [--progress] [--of PEERS] [TOPIC]\n"

@@ -11,7 +11,7 @@ use std::io::Write;
 use std::process::ExitCode;
 
 /// How the program is called.
-pub const USAGE: &str = "usage: gossip_picture [--large] [--of PEERS] [TOPIC]\n";
+pub const USAGE: &str = "usage: gossip_picture [--large] [--progress] [--of PEERS] [TOPIC]\n";
 
 /// The topic that is asked for.
 #[derive(Clone, Copy, Debug, Drop)]

@@ -1,6 +1,7 @@
 //! The program: it draws the run of the scenario that it reads.
 ghost use Rattle.std.specs.Prelude.{◌≡◌, false, IfOk, map, string_bytes};
 ghost use Rattle.std.specs.Process.{exit_status};
+ghost use Rattle.gs_program.specs.Arguments.{after_progress, progress_for};
 ghost use Rattle.gs_streams.specs.Arguments.{limits_for, options_in};
 ghost use Rattle.gossip_picture.specs.Arguments.{asked_for, name_in, wishes_of};
 ghost use Rattle.gossip_picture.specs.Printed.{EndsFor, printed, topic_in};
@@ -10,7 +11,7 @@ use bytes::Bytes;
 use gs_base::{Topic, clone_of};
 use gs_picture::{first_topic, picture_svg};
 use gs_plan::{Limits, Plan};
-use gs_program::{PrintFault, Printer, Program, print_whole};
+use gs_program::{PrintFault, Printer, Program, print_whole, progress_in};
 use gs_report::Report;
 use gs_streams::limits_in;
 use std::alloc::{AllocError, Global};
@@ -81,17 +82,19 @@ where
     W: Write,
     E: Write,
     ensures { EndsFor (limits_for (map string_bytes arguments.now))
-        (asked_for (options_in (map string_bytes arguments.now))) (exit_status result)
+        (progress_for (options_in (map string_bytes arguments.now)))
+        (asked_for (after_progress (options_in (map string_bytes arguments.now)))) (exit_status result)
         (R.remaining input.old) (R.remaining input.new)
         (W.contents output.old) (W.contents output.new) (E.contents errors.old) (E.contents errors.new) }
 {
-    let (limits, options) = limits_in(arguments);
+    let (limits, words) = limits_in(arguments);
+    let (progress, options) = progress_in(words);
     match asked_of(options) {
         Some(asked) => {
             let program = Program {
                 alloc,
                 limits,
-                progress: false,
+                progress,
                 printer: PictureOf { asked },
             };
             program.run_to_exit(input, output, errors)

@@ -83,7 +83,7 @@ legend_words =
 unfoldable pub crowd_words : List ℕ
 crowd_words =
     codes "<text class=\"middle\" x=\"460\" y=\"562\">Peers stand clockwise from the top in the order of the scenario, "
-    ++ codes "without names. Lines are faint, so a dark place has many.</text>\n"
+    ++ codes "without names. Lines are faint, so a dense place has many.</text>\n"
     ++ codes "<g class=\"disc off\" transform=\"translate(69 660)\"><circle r=\"9\"/></g><text x=\"85\" y=\"664\">"
     ++ codes "hollow: not subscribed to the topic</text>\n"
     ++ codes "<path class=\"both\" d=\"M316 660H340\"/><text x=\"345\" y=\"664\">"

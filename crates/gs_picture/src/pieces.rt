@@ -17,7 +17,7 @@ const LEGEND_WORDS: &str = "\
 const CROWD_WORDS: &str = "\
     <text class=\"middle\" x=\"460\" y=\"562\">\
     Peers stand clockwise from the top in the order of the scenario, without names. \
-    Lines are faint, so a dark place has many.</text>\n\
+    Lines are faint, so a dense place has many.</text>\n\
     <g class=\"disc off\" transform=\"translate(69 660)\"><circle r=\"9\"/></g>\
     <text x=\"85\" y=\"664\">hollow: not subscribed to the topic</text>\n\
     <path class=\"both\" d=\"M316 660H340\"/>\

@@ -10,7 +10,7 @@ use std::alloc::{AllocError, Global};
 use std::process::ExitCode;
 use std::test::*;
 
-const USAGE: &str = "usage: gossip_picture [--large] [--of PEERS] [TOPIC]\n";
+const USAGE: &str = "usage: gossip_picture [--large] [--progress] [--of PEERS] [TOPIC]\n";
 
 /// A peer without neighbours does nothing.
 const IDLE: &str = "round_ms = 100\nrounds = 4\nworkers = 1\ncapacity = 1\nseed = 1\n\

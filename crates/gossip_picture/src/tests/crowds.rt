@@ -168,7 +168,7 @@ const CIRCLE: &str = "\
 /// The legend of peers without names.
 const CROWD_LEGEND: &str = "\
 <text class=\"middle\" x=\"460\" y=\"562\">Peers stand clockwise from the top in the order of the scenario, \
-without names. Lines are faint, so a dark place has many.</text>
+without names. Lines are faint, so a dense place has many.</text>
 <g class=\"disc off\" transform=\"translate(69 660)\"><circle r=\"9\"/></g>\
 <text x=\"85\" y=\"664\">hollow: not subscribed to the topic</text>
 <path class=\"both\" d=\"M316 660H340\"/><text x=\"345\" y=\"664\">each has the other in its mesh</text>

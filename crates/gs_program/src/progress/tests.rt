@@ -1,3 +1,7 @@
+//! Lines about a run of two peers, and lines that do not fit.
+ghost use Rattle.std.specs.Prelude.{IfOk};
+ghost use Rattle.gs_plan.specs.Plans.{IsInRange};
+
 use super::*;
 use gs_direct::run_direct;
 use gs_plan::{Limits, Plan};
@@ -26,13 +30,18 @@ const LINES: &str = "round 0 of 9, 0 deliveries\n\
     round 8 of 9, 1 deliveries\n\
     round 9 of 9, 2 deliveries\n";
 
-fn plan_of_two(alloc: Global) -> Option<Plan> {
-    read_plan(alloc, Limits::Standard, TWO).ok()
+fn plan_of_two(alloc: Global) -> Result<Plan, AllocError>
+    ensures { IfOk result (λ plan. IsInRange plan) }
+{
+    match read_plan(alloc, Limits::Standard, TWO) {
+        Ok(plan) => Ok(plan),
+        Err(_) => Err(AllocError),
+    }
 }
 
 /// Says whether a run of the two peers, with lines if they are wanted, writes these.
 fn writes(alloc: Global, wanted: bool, lines: &str) -> bool {
-    let Some(plan) = plan_of_two(alloc) else {
+    let Ok(plan) = plan_of_two(alloc) else {
         return false;
     };
     let mut errors = Vec::new(alloc);
