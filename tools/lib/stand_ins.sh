@@ -170,7 +170,7 @@ check_unproved() {
   expect_like 'lines of a word that is no event' 0 'gossip_trace --events publised,refused scenario' \
     'gossip_trace: no line has the event publised; --help lists them
 *gossip_trace is not built*' tried_trace --events publised,refused
-  usage='usage: gossip_trace [--large] [--peer NAME] [--topic TOPIC] [--rounds A..B] [--events A,B,..]'
+  usage='usage: gossip_trace [--large] [--progress] [--peer NAME] [--topic TOPIC] [--rounds A..B] [--events A,B,..]'
   expect 'a trace of two peers' 64 '' "$usage" tried_trace --peer b --peer c
   expect 'a trace of rounds that are none' 64 '' "$usage" tried_trace --rounds 3..2
   expect 'a trace of a round without an end' 64 '' "$usage" tried_trace --rounds 3
@@ -181,7 +181,7 @@ check_unproved() {
   expect_like 'some scores' 0 'gossip_scores --peer b --neighbour s --rounds 2..3 --format csv scenario' '*' \
     tried_scores --peer b --neighbour=s --rounds 2..3 --format=csv
   expect_like 'a summary of scores' 0 'gossip_scores --peer b --summary scenario' '*' tried_scores --peer b --summary
-  usage='usage: gossip_scores [--large] [--peer NAME] [--neighbour NAME] [--rounds A..B] [--format json|csv | --summary]'
+  usage='usage: gossip_scores [--large] [--progress] [--peer NAME] [--neighbour NAME] [--rounds A..B] [--format json|csv | --summary]'
   expect 'a summary with a format' 64 '' "$usage" tried_scores --summary --format csv
   expect 'a format with a summary' 64 '' "$usage" tried_scores --format=csv --peer b --summary
   expect 'two summaries' 64 '' "$usage" tried_scores --summary --summary

@@ -1,5 +1,5 @@
 -- What the program's arguments ask for.
-use Rattle.std.specs.Prelude.{ℕ, Bool, true, false, ◌&&◌, List, [], ◌∷◌, codes, Option, Some, None, option_map, if◌then◌else◌}
+use Rattle.std.specs.Prelude.{ℕ, Bool, true, false, ◌&&◌, List, [], ◌∷◌, ◌++◌, codes, Option, Some, None, option_map, if◌then◌else◌}
 use Rattle.gs_rules.specs.Rules.{same_bytes}
 use Rattle.gs_trace.specs.declared.wanted.RoundSpan.{RoundSpan}
 use Rattle.gs_trace.specs.Spans.{rounds_in}
@@ -103,5 +103,6 @@ asked_for arguments = asked_from (Some (record { wishes = no_wish; is_summary = 
 
 -- the line that is written for wrong arguments
 unfoldable pub usage : List ℕ
-usage = codes
-    "usage: gossip_scores [--large] [--peer NAME] [--neighbour NAME] [--rounds A..B] [--format json|csv | --summary]\n"
+usage =
+    codes "usage: gossip_scores [--large] [--progress] [--peer NAME] [--neighbour NAME] [--rounds A..B] "
+    ++ codes "[--format json|csv | --summary]\n"

@@ -1,9 +1,9 @@
 -- How the program ends by what its arguments ask for.
-use Rattle.std.specs.Prelude.{ℕ, false, true, if◌then◌else◌, List, Option, Some, None}
+use Rattle.std.specs.Prelude.{ℕ, Bool, false, true, if◌then◌else◌, List, Option, Some, None}
 use Rattle.gs_plan.specs.declared.plan.Plan.{Plan}
 use Rattle.gs_program.specs.Arguments.{IsMisused}
 use Rattle.gs_plan.specs.declared.limits.Limits.{Limits}
-use Rattle.gs_program.specs.Program.{EndsWith}
+use Rattle.gs_program.specs.Progress.{ExitsShowing}
 use Rattle.gs_program.specs.declared.printer.PrintFault.{PrintFault}
 use Rattle.gs_program.specs.declared.printer.PrintFault.TheVariants as prints
 use Rattle.gs_report.specs.declared.report.Report.{Report}
@@ -24,8 +24,8 @@ printed_for a plan report =
     if a.is_summary then summary_text a.wishes plan report else scores_text a.wishes plan report
 
 abbrev pub EndsFor
-    : Limits → Option Asked → (status : ℕ) (input input' output output' errors errors' : Option (List ℕ)) → Type 0
-EndsFor limits None status input input' output output' errors errors' =
+    : Limits → (progress : Bool) → Option Asked → (status : ℕ) (input input' output output' errors errors' : Option (List ℕ)) → Type 0
+EndsFor limits progress None status input input' output output' errors errors' =
     IsMisused usage status input input' output output' errors errors'
-EndsFor limits (Some asked) status input input' output output' errors errors' =
-    EndsWith limits (printed_for asked) true false status input input' output output' errors errors'
+EndsFor limits progress (Some asked) status input input' output output' errors errors' =
+    ExitsShowing limits (printed_for asked) true false progress status input input' output output' errors errors'

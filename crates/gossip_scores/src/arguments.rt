@@ -13,7 +13,8 @@ use std::process::ExitCode;
 
 /// How the program is called.
 pub const USAGE: &str =
-    "usage: gossip_scores [--large] [--peer NAME] [--neighbour NAME] [--rounds A..B] [--format json|csv | --summary]\n";
+    "usage: gossip_scores [--large] [--progress] [--peer NAME] [--neighbour NAME] [--rounds A..B] \
+    [--format json|csv | --summary]\n";
 
 /// What the arguments ask for.
 #[derive(Clone, Copy, Debug, Drop)]

@@ -3,6 +3,7 @@ ghost use Rattle.std.specs.Io.KnownBytes.{Appends};
 ghost use Rattle.std.specs.Prelude.{◌≡◌, OnErr, OnOk, false, true, map, string_bytes};
 ghost use Rattle.std.specs.Process.{exit_status};
 ghost use Rattle.gs_plan.specs.Plans.{IsInRange};
+ghost use Rattle.gs_program.specs.Arguments.{after_progress, progress_for};
 ghost use Rattle.gs_streams.specs.Arguments.{limits_for, options_in};
 ghost use Rattle.gs_seats.specs.Reports.{IsReport};
 ghost use Rattle.gs_streams.specs.Streams.{AppendsFront};
@@ -11,7 +12,7 @@ ghost use Rattle.gossip_scores.specs.Printed.{EndsFor, as_printed, printed_for};
 
 use crate::arguments::{Asked, asked_by, refuse};
 use gs_plan::Plan;
-use gs_program::{PrintFault, Printer, Program};
+use gs_program::{PrintFault, Printer, Program, progress_in};
 use gs_report::Report;
 use gs_snapshots::{write_scores, write_summary};
 use gs_streams::limits_in;
@@ -91,17 +92,19 @@ where
     W: Write,
     E: Write,
     ensures { EndsFor (limits_for (map string_bytes arguments.now))
-        (asked_for (options_in (map string_bytes arguments.now))) (exit_status result)
+        (progress_for (options_in (map string_bytes arguments.now)))
+        (asked_for (after_progress (options_in (map string_bytes arguments.now)))) (exit_status result)
         (R.remaining input.old) (R.remaining input.new)
         (W.contents output.old) (W.contents output.new) (E.contents errors.old) (E.contents errors.new) }
 {
-    let (limits, options) = limits_in(arguments);
+    let (limits, words) = limits_in(arguments);
+    let (progress, options) = progress_in(words);
     match asked_by(options) {
         Some(asked) => {
             let program = Program {
                 alloc,
                 limits,
-                progress: false,
+                progress,
                 printer: ScoresOf { asked },
             };
             program.run_to_exit(input, output, errors)

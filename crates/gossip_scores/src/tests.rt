@@ -39,7 +39,8 @@ const CAPPED: &str = "round_ms = 100\nrounds = 4\nworkers = 1\ncapacity = 1\nsee
     [[do]]\nwhat = \"publish\"\nat = 2\npeer = \"a\"\ntopic = \"news\"\nhex = \"616263\"\n";
 
 const USAGE: &str =
-    "usage: gossip_scores [--large] [--peer NAME] [--neighbour NAME] [--rounds A..B] [--format json|csv | --summary]\n";
+    "usage: gossip_scores [--large] [--progress] [--peer NAME] [--neighbour NAME] [--rounds A..B] \
+    [--format json|csv | --summary]\n";
 
 /// What is printed of a scenario for some options.
 struct Case {

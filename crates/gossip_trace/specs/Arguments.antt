@@ -54,4 +54,4 @@ asked_for arguments = asked_from (Some no_wish) arguments
 
 -- the line that is written for wrong arguments
 unfoldable pub usage : List ℕ
-usage = codes "usage: gossip_trace [--large] [--peer NAME] [--topic TOPIC] [--rounds A..B] [--events A,B,..]\n"
+usage = codes "usage: gossip_trace [--large] [--progress] [--peer NAME] [--topic TOPIC] [--rounds A..B] [--events A,B,..]\n"

@@ -1,8 +1,8 @@
 -- How the program ends by what its arguments ask for.
-use Rattle.std.specs.Prelude.{ℕ, false, true, List, Option, Some, None}
+use Rattle.std.specs.Prelude.{ℕ, Bool, false, true, List, Option, Some, None}
 use Rattle.gs_program.specs.Arguments.{IsMisused}
 use Rattle.gs_plan.specs.declared.limits.Limits.{Limits}
-use Rattle.gs_program.specs.Program.{EndsWith}
+use Rattle.gs_program.specs.Progress.{ExitsShowing}
 use Rattle.gs_program.specs.declared.printer.PrintFault.{PrintFault}
 use Rattle.gs_program.specs.declared.printer.PrintFault.TheVariants as prints
 use Rattle.gs_trace.specs.declared.fault.TraceFault.{TraceFault}
@@ -16,8 +16,8 @@ as_printed faults.NoMemory = prints.CutOff
 as_printed faults.WriteFailed = prints.WriteFailed
 
 abbrev pub EndsFor
-    : Limits → Option Wishes → (status : ℕ) (input input' output output' errors errors' : Option (List ℕ)) → Type 0
-EndsFor limits None status input input' output output' errors errors' =
+    : Limits → (progress : Bool) → Option Wishes → (status : ℕ) (input input' output output' errors errors' : Option (List ℕ)) → Type 0
+EndsFor limits progress None status input input' output output' errors errors' =
     IsMisused usage status input input' output output' errors errors'
-EndsFor limits (Some wishes) status input input' output output' errors errors' =
-    EndsWith limits (wanted_text wishes) true false status input input' output output' errors errors'
+EndsFor limits progress (Some wishes) status input input' output output' errors errors' =
+    ExitsShowing limits (wanted_text wishes) true false progress status input input' output output' errors errors'

@@ -12,7 +12,7 @@ use std::process::ExitCode;
 
 /// How the program is called.
 pub const USAGE: &str =
-    "usage: gossip_trace [--large] [--peer NAME] [--topic TOPIC] [--rounds A..B] [--events A,B,..]\n";
+    "usage: gossip_trace [--large] [--progress] [--peer NAME] [--topic TOPIC] [--rounds A..B] [--events A,B,..]\n";
 
 /// Returns which lines the arguments ask for: all where there are no arguments. Returns None where they are wrong.
 pub fn asked_by(arguments: &[String]) -> Option<Wanted<'_>>

@@ -1,6 +1,7 @@
 //! The program: it writes the trace of the run of the scenario that it reads.
 ghost use Rattle.std.specs.Prelude.{◌≡◌, false, true, map, string_bytes};
 ghost use Rattle.std.specs.Process.{exit_status};
+ghost use Rattle.gs_program.specs.Arguments.{after_progress, progress_for};
 ghost use Rattle.gs_streams.specs.Arguments.{limits_for, options_in};
 ghost use Rattle.gs_trace.specs.Wanted.{wanted_text, wishes_of};
 ghost use Rattle.gossip_trace.specs.Arguments.{asked_for};
@@ -8,7 +9,7 @@ ghost use Rattle.gossip_trace.specs.Printed.{EndsFor, as_printed};
 
 use crate::arguments::{asked_by, refuse};
 use gs_plan::Plan;
-use gs_program::{PrintFault, Printer, Program};
+use gs_program::{PrintFault, Printer, Program, progress_in};
 use gs_report::Report;
 use gs_seats::traces_of_a_report_are_in_order;
 use gs_streams::limits_in;
@@ -69,17 +70,19 @@ where
     W: Write,
     E: Write,
     ensures { EndsFor (limits_for (map string_bytes arguments.now))
-        (asked_for (options_in (map string_bytes arguments.now))) (exit_status result)
+        (progress_for (options_in (map string_bytes arguments.now)))
+        (asked_for (after_progress (options_in (map string_bytes arguments.now)))) (exit_status result)
         (R.remaining input.old) (R.remaining input.new)
         (W.contents output.old) (W.contents output.new) (E.contents errors.old) (E.contents errors.new) }
 {
-    let (limits, options) = limits_in(arguments);
+    let (limits, words) = limits_in(arguments);
+    let (progress, options) = progress_in(words);
     match asked_by(options) {
         Some(wanted) => {
             let program = Program {
                 alloc,
                 limits,
-                progress: false,
+                progress,
                 printer: TraceOf { wanted },
             };
             program.run_to_exit(input, output, errors)

@@ -22,7 +22,7 @@ const SCENARIO: &str = "round_ms = 100\nrounds = 3\nworkers = 1\ncapacity = 1\ns
     [[do]]\nwhat = \"publish\"\nat = 3\npeer = \"a\"\ntopic = \"news\"\nhex = \"616263\"\n";
 
 const USAGE: &str =
-    "usage: gossip_trace [--large] [--peer NAME] [--topic TOPIC] [--rounds A..B] [--events A,B,..]\n";
+    "usage: gossip_trace [--large] [--progress] [--peer NAME] [--topic TOPIC] [--rounds A..B] [--events A,B,..]\n";
 
 /// What is printed of a run for some options.
 struct Case {
