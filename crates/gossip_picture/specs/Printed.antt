@@ -22,7 +22,8 @@ printed w plan report = picture plan report (topic_in plan w.topic) w.among
 
 -- how the program ends, depending on what is asked for
 abbrev pub EndsFor
-    : Limits → (progress : Bool) → Option Wishes → (status : ℕ) (input input' output output' errors errors' : Option (List ℕ)) → Type 0
+    : Limits → (progress : Bool) → Option Wishes
+    → (status : ℕ) (input input' output output' errors errors' : Option (List ℕ)) → Type 0
 EndsFor limits progress None status input input' output output' errors errors' =
     IsMisused usage status input input' output output' errors errors'
 EndsFor limits progress (Some wishes) status input input' output output' errors errors' =

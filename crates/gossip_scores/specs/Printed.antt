@@ -24,7 +24,8 @@ printed_for a plan report =
     if a.is_summary then summary_text a.wishes plan report else scores_text a.wishes plan report
 
 abbrev pub EndsFor
-    : Limits → (progress : Bool) → Option Asked → (status : ℕ) (input input' output output' errors errors' : Option (List ℕ)) → Type 0
+    : Limits → (progress : Bool) → Option Asked
+    → (status : ℕ) (input input' output output' errors errors' : Option (List ℕ)) → Type 0
 EndsFor limits progress None status input input' output output' errors errors' =
     IsMisused usage status input input' output output' errors errors'
 EndsFor limits progress (Some asked) status input input' output output' errors errors' =

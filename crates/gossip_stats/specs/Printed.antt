@@ -48,7 +48,8 @@ abbrev pub printed : Wishes → Plan → Report → List ℕ
 printed w plan report = written w.form (figure_sheets plan report (sheets_wished w))
 
 abbrev pub EndsFor
-    : Limits → (progress : Bool) → Option Wishes → (status : ℕ) (input input' output output' errors errors' : Option (List ℕ)) → Type 0
+    : Limits → (progress : Bool) → Option Wishes
+    → (status : ℕ) (input input' output output' errors errors' : Option (List ℕ)) → Type 0
 EndsFor limits progress None status input input' output output' errors errors' =
     IsMisused usage status input input' output output' errors errors'
 EndsFor limits progress (Some wishes) status input input' output output' errors errors' =

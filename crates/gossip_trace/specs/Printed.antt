@@ -16,7 +16,8 @@ as_printed faults.NoMemory = prints.CutOff
 as_printed faults.WriteFailed = prints.WriteFailed
 
 abbrev pub EndsFor
-    : Limits → (progress : Bool) → Option Wishes → (status : ℕ) (input input' output output' errors errors' : Option (List ℕ)) → Type 0
+    : Limits → (progress : Bool) → Option Wishes
+    → (status : ℕ) (input input' output output' errors errors' : Option (List ℕ)) → Type 0
 EndsFor limits progress None status input input' output output' errors errors' =
     IsMisused usage status input input' output output' errors errors'
 EndsFor limits progress (Some wishes) status input input' output output' errors errors' =
