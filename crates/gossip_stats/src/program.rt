@@ -1,8 +1,7 @@
 //! The program: it writes figures of the scenario that it reads.
-ghost use Rattle.std.specs.Prelude.{◌≡◌, IfOk, List, OnErr, map, string_bytes};
+ghost use Rattle.std.specs.Prelude.{◌≡◌, IfOk, OnErr, map, string_bytes};
 ghost use Rattle.std.specs.Process.{exit_status};
-ghost use Rattle.gs_direct.specs.Stages.{HasShownAll, Shows};
-ghost use Rattle.gs_direct.specs.declared.stages.Stage.{Stage as StageValue};
+ghost use Rattle.gs_direct.specs.Stages.{HasShownAll, HasShownFirst};
 ghost use Rattle.gs_figure_sheets.specs.FigureSheets.{sheets_of};
 ghost use Rattle.gs_figure_sheets.specs.Parties.{group_wish};
 ghost use Rattle.gs_figure_sheets.specs.Wishes.{wishes_of as sheet_wishes_of};
@@ -61,8 +60,7 @@ fn sheets_for<G: Gauge>(
         × IsReport plan.now report
         × (sheets ≡ sheets_of plan.now inquiry.now report)
         × HasShownAll G.has_shown gauge.old gauge.new plan.now report) }
-    ensures stopped { OnErr result ((stages : List StageValue)
-        × Shows G.has_shown gauge.old gauge.new stages) }
+    ensures stopped { OnErr result (HasShownFirst G.has_shown gauge.old gauge.new plan.now) }
 {
     let mut gathering = Gathering::new(alloc, plan, inquiry)?;
     match run_observed(alloc, plan, &mut gathering, gauge) {

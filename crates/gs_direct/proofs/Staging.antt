@@ -13,25 +13,29 @@ use Rattle.gs_plan.specs.declared.plan.Plan.{Plan}
 use Rattle.gs_report.specs.Seen.{numbers_below}
 use Rattle.gs_router.specs.Log.{this_round}
 use Rattle.gs_rules.proofs.RoundEnds.{has_ended}
+use Rattle.gs_params.specs.Seeding.{seeded_after, seeded_word}
+use Rattle.gs_rules.specs.Legal.{LegalOn}
+use Rattle.gs_rules.specs.Modes.{exact}
+use Rattle.gs_rules.specs.Rounds.{AfterRounds}
 use Rattle.gs_rules.specs.Tables.{Entries}
 use Rattle.gs_rules.specs.declared.trace.Entry.{Entry}
 use Rattle.gs_seats.proofs.ByNumber.{as_many, at_number}
 use Rattle.gs_seats.proofs.EachPeer.{range_more, zip_more}
-use Rattle.gs_seats.specs.Rounds.{numbers, peer_no, seat_in}
+use Rattle.gs_seats.specs.Rounds.{first_words, numbers, peer_in, peer_no, seat_in}
 use Rattle.gs_direct.proofs.Observing.{none_past}
 use Rattle.gs_direct.proofs.Turning.{trace_is}
 use Rattle.gs_direct.specs.Observing.{HaveGrown}
 use Rattle.gs_direct.specs.Runs.{AreAt, IsAt, said_so_far, trace_at}
-use Rattle.gs_direct.specs.Stages.{AreStages, IsRoundEnd, IsStage, Shows, counted, delivered_in, delivered_to}
+use Rattle.gs_direct.specs.Stages.{AreFirstStages, AreStages, AreTracesAfter, HasShownFirst, HasShownMore, IsRoundEnd, IsStage, delivered_in, delivered_to, saturated}
 use Rattle.gs_direct.specs.declared.peer.Peer.{Peer}
 use Rattle.gs_direct.specs.declared.stages.Stage.{Stage}
 
 -- ---- what was shown
 
-pub shows_none : {T S : Type 0} → (has_shown : T → S → List Stage → Type 0) (gauge : T) → Shows has_shown gauge gauge []
+pub shows_none : {T S : Type 0} → (has_shown : T → S → List Stage → Type 0) (gauge : T) → HasShownMore has_shown gauge gauge []
 shows_none has_shown gauge start before h = subst (has_shown gauge start) (sym (append-nil before)) h
 
-pub shows_more : {T S : Type 0} → (has_shown : T → S → List Stage → Type 0) (a b c : T) (stages : List Stage) (stage : Stage) → Shows has_shown a b stages → Shows has_shown b c (stage ∷ []) → Shows has_shown a c (stages ++ stage ∷ [])
+pub shows_more : {T S : Type 0} → (has_shown : T → S → List Stage → Type 0) (a b c : T) (stages : List Stage) (stage : Stage) → HasShownMore has_shown a b stages → HasShownMore has_shown b c (stage ∷ []) → HasShownMore has_shown a c (stages ++ stage ∷ [])
 shows_more has_shown a b c stages stage first next start before h =
     subst (has_shown c start) (append_assoc before stages (stage ∷ [])) (next start (before ++ stages) (first start before h))
 
@@ -43,18 +47,18 @@ on_err (Err e) P h = h
 -- ---- counts
 
 -- a count of a count and more
-pub counted_once : (a b : ℕ) → counted (counted a + b) ≡ counted (a + b)
-counted_once a b = elim (cases_lt a (2 ^ 64 - 1)) [
-  | inl below ↦ ap (λ (n : ℕ). counted (n + b)) (min-eq_left (omega (arith, below)))
+pub saturated_once : (a b : ℕ) → saturated (saturated a + b) ≡ saturated (a + b)
+saturated_once a b = elim (cases_lt a (2 ^ 64 - 1)) [
+  | inl below ↦ ap (λ (n : ℕ). saturated (n + b)) (min-eq_left (omega (arith, below)))
   | inr above ↦ min-eq_right (omega (arith, min-eq_right above)) ∙ sym (min-eq_right (omega (arith, above)))
 ]
 
-pub counted_both : (a b : ℕ) → counted (counted a + counted b) ≡ counted (a + b)
-counted_both a b =
-    counted_once a (counted b)
-    ∙ ap counted (omega arith)
-    ∙ counted_once b a
-    ∙ ap counted (omega arith)
+pub saturated_both : (a b : ℕ) → saturated (saturated a + saturated b) ≡ saturated (a + b)
+saturated_both a b =
+    saturated_once a (saturated b)
+    ∙ ap saturated (omega arith)
+    ∙ saturated_once b a
+    ∙ ap saturated (omega arith)
 
 -- ---- deliveries
 
@@ -72,12 +76,12 @@ delivered_since count earlier later grown =
     (λ p. ap delivered_in (grown p) ∙ sum_by-append (λ (e : Entry). length e.effects.delivered) (this_round (later p)) (earlier p) ∙ omega arith)
     (numbers_below count)
 
-pub counted_since : (count : ℕ) (earlier later : PeerNo → Entries) (before now : ℕ) → HaveGrown earlier later → before ≡ counted (delivered_to count earlier) → now ≡ counted (before + delivered_to count (λ p. this_round (later p))) → now ≡ counted (delivered_to count later)
-counted_since count earlier later before now grown was is =
+pub saturated_since : (count : ℕ) (earlier later : PeerNo → Entries) (before now : ℕ) → HaveGrown earlier later → before ≡ saturated (delivered_to count earlier) → now ≡ saturated (before + delivered_to count (λ p. this_round (later p))) → now ≡ saturated (delivered_to count later)
+saturated_since count earlier later before now grown was is =
     is
-    ∙ ap (λ (n : ℕ). counted (n + delivered_to count (λ p. this_round (later p)))) was
-    ∙ counted_once (delivered_to count earlier) (delivered_to count (λ p. this_round (later p)))
-    ∙ ap counted (sym (delivered_since count earlier later grown))
+    ∙ ap (λ (n : ℕ). saturated (n + delivered_to count (λ p. this_round (later p)))) was
+    ∙ saturated_once (delivered_to count earlier) (delivered_to count (λ p. this_round (later p)))
+    ∙ ap saturated (sym (delivered_since count earlier later grown))
 
 sum_of_none : (f : PeerNo → ℕ) → ((p : PeerNo) → f p ≡ 0) → (ps : List PeerNo) → sum_by f ps ≡ 0
 sum_of_none f none [] = refl
@@ -93,9 +97,9 @@ none_before plan peers each p = elim (cases_lt p.0 (length plan.peers)) [
 ]
 
 -- so nothing is delivered to them
-pub count_begins : {T : Type 0} → (plan : Plan) (peers : List (Peer T)) → AllZip (IsAt plan 0 peers) (numbers plan) peers → 0 ≡ counted (delivered_to (length plan.peers) (trace_at peers))
+pub count_begins : {T : Type 0} → (plan : Plan) (peers : List (Peer T)) → AllZip (IsAt plan 0 peers) (numbers plan) peers → 0 ≡ saturated (delivered_to (length plan.peers) (trace_at peers))
 count_begins plan peers each =
-    sym (ap counted (sum_of_none (λ p. delivered_in (trace_at peers p)) (λ p. ap delivered_in (none_before plan peers each p)) (numbers_below (length plan.peers))) ∙ zero-min (2 ^ 64 - 1))
+    sym (ap saturated (sum_of_none (λ p. delivered_in (trace_at peers p)) (λ p. ap delivered_in (none_before plan peers each p)) (numbers_below (length plan.peers))) ∙ zero-min (2 ^ 64 - 1))
 
 -- one peer more
 pub delivered_to_more : (n : ℕ) (traces : PeerNo → Entries) → delivered_to (n + 1) traces ≡ delivered_to n traces + delivered_in (traces (peer_no n))
@@ -136,7 +140,7 @@ pub stages_same : (plan : Plan) (these those : PeerNo → Entries) → ((p : Pee
 stages_same plan these those same = stages_later plan these those (λ p. ([], same p))
 
 -- the stage after one more round
-pub one_stage : {T : Type 0} → (plan : Plan) (r : ℕ) (peers : List (Peer T)) (stage : Stage) → AllZip (IsAt plan (suc r) peers) (numbers plan) peers → stage.round ≡ r → stage.deliveries ≡ counted (delivered_to (length plan.peers) (trace_at peers)) → IsStage plan (trace_at peers) r stage
+pub one_stage : {T : Type 0} → (plan : Plan) (r : ℕ) (peers : List (Peer T)) (stage : Stage) → AllZip (IsAt plan (suc r) peers) (numbers plan) peers → stage.round ≡ r → stage.deliveries ≡ saturated (delivered_to (length plan.peers) (trace_at peers)) → IsStage plan (trace_at peers) r stage
 one_stage {T} plan r peers stage each round_is count_is = record {
   earlier = trace_at peers;
   older = λ p. ([], refl);
@@ -152,6 +156,46 @@ one_stage {T} plan r peers stage each round_is count_is = record {
         let (K, earlier, more, before, plays, is) = at.played in
         let ended = has_ended (seat_in plan p) (said_so_far peers p) r K peer.router.trace earlier more before plays in
         record { end = ended.end; before = ended.before; are = trace_is peers p peer here ∙ ended.are; is_end = ended.is_end }
+
+-- ---- traces
+
+-- peers that have played rounds have these traces
+pub so_far : {T : Type 0} → (plan : Plan) (r : ℕ) (peers : List (Peer T)) → AllZip (IsAt plan r peers) (numbers plan) peers → AreTracesAfter plan r (trace_at peers)
+so_far plan r peers each p below =
+    let (peer, here, at) = at_number (IsAt plan r peers) plan p peers below each in
+    let is : peer.router.trace ≡ trace_at peers p = sym (trace_is peers p peer here) in
+    record {
+      chosen = (
+        peer.words,
+        subst (λ (L : Entries). LegalOn (exact seeded_word seeded_after) (peer_in plan p) (first_words plan p) [] L peer.words) is at.legal,
+      );
+      refused = peer.refused.items;
+      played = subst (λ (L : Entries). AfterRounds (seat_in plan p) (said_so_far peers p) r L peer.refused.items) is at.played;
+    }
+
+-- so what was shown of them is of the first rounds of a run
+pub first_stages : {T : Type 0} → (plan : Plan) (r : ℕ) (peers : List (Peer T)) (stages : List Stage) → r ≤ suc plan.rounds → AllZip (IsAt plan r peers) (numbers plan) peers → AreStages plan (trace_at peers) r stages → AreFirstStages plan stages
+first_stages plan r peers stages within each are = record {
+  rounds = r;
+  within = within;
+  traces = trace_at peers;
+  so_far = so_far plan r peers each;
+  are = are;
+}
+
+-- before its first round a run has shown nothing
+pub first_none : {T S : Type 0} → (has_shown : T → S → List Stage → Type 0) (gauge : T) (plan : Plan) → HasShownFirst has_shown gauge gauge plan
+first_none has_shown gauge plan = record {
+  stages = [];
+  shows = shows_none has_shown gauge;
+  first = record {
+    rounds = 0;
+    within = omega arith;
+    traces = λ p. [];
+    so_far = λ p below. record { chosen = (first_words plan p, refl); refused = []; played = (refl, refl) };
+    are = tt;
+  };
+}
 
 pub stages_more : (plan : Plan) (traces : PeerNo → Entries) (n : ℕ) (stages : List Stage) (stage : Stage) → AreStages plan traces n stages → IsStage plan traces n stage → AreStages plan traces (suc n) (stages ++ stage ∷ [])
 stages_more plan traces n stages stage are is =

@@ -15,7 +15,7 @@ ghost use Rattle.gs_seats.specs.Rounds.{IsRun, numbers, peer_no, seat_in, trace_
 ghost use Rattle.gs_direct.specs.Observing.{HasSeen, HasSeenReport, HaveGrown};
 ghost use Rattle.gs_direct.specs.Peers.{IsNewPeer};
 ghost use Rattle.gs_direct.specs.Runs.{AreAt, HaveClosed, HaveEnded, IsRoomFor, numbered, trace_at};
-ghost use Rattle.gs_direct.specs.Stages.{AreStages, HasShownAll, HasShownLives, Shows};
+ghost use Rattle.gs_direct.specs.Stages.{AreFirstStages, AreStages, HasShownAll, HasShownFirst, HasShownLives, HasShownMore};
 ghost use Rattle.gs_direct.specs.declared.stages.Stage.{Stage as StageValue};
 
 use crate::peer::Peer;
@@ -34,14 +34,14 @@ use std::alloc::{AllocError, Global};
 /// far the run is, at the end of each round.
 ///
 /// # Errors
-/// `NoMemory` when out of memory. It names no peer, and the clause leaves that open. The gauge has shown some stages by then.
+/// `NoMemory` when out of memory. It names no peer, and the clause leaves that open. The gauge has shown some first rounds by
+/// then.
 pub fn run_direct<G: Gauge>(alloc: Global, plan: &Plan, gauge: &mut G) -> Result<Report, NetFault>
     requires { IsInRange plan.now }
     ensures report { IfOk result (IsReport plan.now) }
     ensures shown { IfOk result (HasShownAll G.has_shown gauge.old gauge.new plan.now) }
     ensures memory { IfErr result (λ fault. number_of fault ≡ 24) }
-    ensures stopped { OnErr result ((stages : List StageValue)
-        × Shows G.has_shown gauge.old gauge.new stages) }
+    ensures stopped { OnErr result (HasShownFirst G.has_shown gauge.old gauge.new plan.now) }
 {
     match lives_of(alloc, plan, gauge) {
         Ok(peers) => Ok(Report {
@@ -57,7 +57,8 @@ pub fn run_direct<G: Gauge>(alloc: Global, plan: &Plan, gauge: &mut G) -> Result
 /// the plan that has just these traces and just this. A gauge shows how far the run is, at the end of each round.
 ///
 /// # Errors
-/// `NoMemory` when out of memory. It names no peer, and the clause leaves that open. The gauge has shown some stages by then.
+/// `NoMemory` when out of memory. It names no peer, and the clause leaves that open. The gauge has shown some first rounds by
+/// then.
 pub fn run_observed<O: Observer, G: Gauge>(
     alloc: Global,
     plan: &Plan,
@@ -73,8 +74,7 @@ pub fn run_observed<O: Observer, G: Gauge>(
         × HasShownAll G.has_shown gauge.old gauge.new plan.now report) }
     ensures question { OnOk result (O.question observer.new ≡ O.question observer.old) }
     ensures memory { IfErr result (λ fault. number_of fault ≡ 24) }
-    ensures stopped { OnErr result ((stages : List StageValue)
-        × Shows G.has_shown gauge.old gauge.new stages) }
+    ensures stopped { OnErr result (HasShownFirst G.has_shown gauge.old gauge.new plan.now) }
 {
     match remains_seen(alloc, plan, observer, gauge) {
         Ok(remains) => Ok(remains),
@@ -98,8 +98,7 @@ fn remains_seen<O: Observer, G: Gauge>(
         × (remains.items ≡ map (λ x. (x.0, remains_of x.1)) lives)
         × HasShownLives G.has_shown gauge.old gauge.new plan.now (map (λ x. x.1) lives)) }
     ensures question { OnOk result (O.question observer.new ≡ O.question observer.old) }
-    ensures stopped { OnErr result ((stages : List StageValue)
-        × Shows G.has_shown gauge.old gauge.new stages) }
+    ensures stopped { OnErr result (HasShownFirst G.has_shown gauge.old gauge.new plan.now) }
 {
     let mut peers = peers_of::<LastRound>(alloc, plan)?;
     let mut post = Post::new(alloc, plan.peers.len())?;
@@ -118,8 +117,7 @@ fn lives_of<G: Gauge>(
     ensures run { IfOk result (λ lives. IsRun plan.now (map (λ x. x.1) lives.items)) }
     ensures shown { IfOk result (λ lives.
         HasShownLives G.has_shown gauge.old gauge.new plan.now (map (λ x. x.1) lives.items)) }
-    ensures stopped { OnErr result ((stages : List StageValue)
-        × Shows G.has_shown gauge.old gauge.new stages) }
+    ensures stopped { OnErr result (HasShownFirst G.has_shown gauge.old gauge.new plan.now) }
 {
     let mut peers = peers_of::<WholeTrace>(alloc, plan)?;
     let mut post = Post::new(alloc, plan.peers.len())?;
@@ -160,10 +158,10 @@ fn run_all<K: Retention, O: Observer, G: Gauge>(
     ensures ended { OnOk result (HaveEnded plan.now peers.new) }
     ensures saw { OnOk result (HasSeen (O.saw observer.new) (trace_at peers.new)) }
     ensures question { OnOk result (O.question observer.new ≡ O.question observer.old) }
-    ensures shown { OnOk result ((stages : List StageValue) × Shows G.has_shown gauge.old gauge.new stages
+    ensures shown { OnOk result ((stages : List StageValue) × HasShownMore G.has_shown gauge.old gauge.new stages
+        × AreFirstStages plan.now stages
         × AreStages plan.now (trace_at peers.new) (suc plan.now.rounds) stages) }
-    ensures stopped { OnErr result ((stages : List StageValue)
-        × Shows G.has_shown gauge.old gauge.new stages) }
+    ensures stopped { OnErr result (HasShownFirst G.has_shown gauge.old gauge.new plan.now) }
 {
     play_all(plan, peers, post, observer, gauge)?;
     close_all(plan, peers, post)?;
@@ -186,10 +184,10 @@ fn play_all<K: Retention, O: Observer, G: Gauge>(
     ensures played { OnOk result (AreAt plan.now (suc plan.now.rounds) peers.new post.new.mail.items) }
     ensures saw { OnOk result (HasSeen (O.saw observer.new) (trace_at peers.new)) }
     ensures question { OnOk result (O.question observer.new ≡ O.question observer.old) }
-    ensures shown { OnOk result ((stages : List StageValue) × Shows G.has_shown gauge.old gauge.new stages
+    ensures shown { OnOk result ((stages : List StageValue) × HasShownMore G.has_shown gauge.old gauge.new stages
+        × AreFirstStages plan.now stages
         × AreStages plan.now (trace_at peers.new) (suc plan.now.rounds) stages) }
-    ensures stopped { OnErr result ((stages : List StageValue)
-        × Shows G.has_shown gauge.old gauge.new stages) }
+    ensures stopped { OnErr result (HasShownFirst G.has_shown gauge.old gauge.new plan.now) }
 {
     let mut deliveries = 0u64;
     for round in 0..plan.rounds + 1 {

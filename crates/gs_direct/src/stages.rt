@@ -1,7 +1,7 @@
 //! How far a run is.
 ghost use Rattle.std.specs.Prelude.{◌≡◌, ◌+◌, ◌∷◌, [], List, length};
 ghost use Rattle.gs_direct.specs.Runs.{trace_at};
-ghost use Rattle.gs_direct.specs.Stages.{Shows, counted, delivered_in, delivered_to};
+ghost use Rattle.gs_direct.specs.Stages.{HasShownMore, delivered_in, delivered_to, saturated};
 ghost use Rattle.gs_direct.specs.declared.stages.Stage.{Stage as StageValue};
 ghost use Rattle.gs_plan.specs.Plans.{IsInRange};
 ghost use Rattle.gs_router.specs.Log.{this_round};
@@ -30,7 +30,7 @@ pub trait Gauge {
 
     /// Shows a stage.
     fn show(&mut self, stage: Stage)
-        ensures { Shows has_shown self.old self.new (stage ∷ []) };
+        ensures { HasShownMore has_shown self.old self.new (stage ∷ []) };
 }
 
 /// A gauge that shows nothing.
@@ -49,7 +49,7 @@ impl Gauge for NoGauge {
 pub(crate) fn delivered_by_now<K: Retention>(plan: &Plan, peers: &[Peer<K>], before: u64) -> u64
     requires range { IsInRange plan.now }
     requires many { length peers.now ≡ length plan.now.peers }
-    ensures { result ≡ counted (before
+    ensures { result ≡ saturated (before
         + delivered_to (length plan.now.peers) (λ p. this_round (trace_at peers.now p))) }
 {
     let mut all = before;
@@ -63,7 +63,7 @@ pub(crate) fn delivered_by_now<K: Retention>(plan: &Plan, peers: &[Peer<K>], bef
 
 /// Returns how much was delivered in these entries.
 fn delivered_in(entries: &[StoredEntry]) -> u64
-    ensures { result ≡ counted (delivered_in entries.now) }
+    ensures { result ≡ saturated (delivered_in entries.now) }
 {
     let mut all = 0u64;
     for entry in entries {

@@ -17,8 +17,8 @@ use Rattle.gs_figure_sheets.specs.declared.inquiry.Inquiry.{Inquiry}
 use Rattle.gs_figure_sheets.specs.declared.wanted.Subject.TheVariants.{Run, Rounds, Topics, Links}
 
 -- the plan of the run that it observes, and what is asked of the run
-abbrev pub plan_of : Gathering → Plan
-plan_of g = g.plan.now
+abbrev pub plan_gathered : Gathering → Plan
+plan_gathered g = g.plan.now
 
 abbrev pub inquiry_in : Gathering → Inquiry
 inquiry_in g = g.inquiry.now

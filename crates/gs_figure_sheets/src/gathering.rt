@@ -10,7 +10,7 @@ ghost use Rattle.gs_report.specs.declared.report.Report.{Report as ReportValue};
 ghost use Rattle.gs_router.specs.Following.{AreInOrder};
 ghost use Rattle.gs_rules.specs.Tables.{Entries};
 ghost use Rattle.gs_figure_sheets.specs.FigureSheets.{all_counts, found_of, sheets_of};
-ghost use Rattle.gs_figure_sheets.specs.Gathering.{CountsAll, GathersParts, GathersRun, HasGathered, inquiry_in, plan_of};
+ghost use Rattle.gs_figure_sheets.specs.Gathering.{CountsAll, GathersParts, GathersRun, HasGathered, inquiry_in, plan_gathered};
 ghost use Rattle.gs_figure_sheets.specs.declared.inquiry.Inquiry.{Inquiry as InquiryValue};
 
 use crate::found::Found;
@@ -70,7 +70,7 @@ impl<'a> Gathering<'a> {
         requires { IsInRange plan.now }
         ensures gathered { IfOk result (λ gathering. HasGathered plan.now inquiry.now gathering (λ p. [])) }
         ensures question { IfOk result (λ gathering.
-            (plan_of gathering ≡ plan.now) × (inquiry_in gathering ≡ inquiry.now)) }
+            (plan_gathered gathering ≡ plan.now) × (inquiry_in gathering ≡ inquiry.now)) }
     {
         let counting = Counting::new(alloc, plan, &inquiry.among)?;
         let parts = Parts::new(alloc, plan, inquiry)?;
@@ -91,13 +91,13 @@ impl<'a> Gathering<'a> {
         alloc: Global,
         remains: Vec<(PeerNo, Remains)>,
     ) -> Result<Seq<Sheet>, AllocError>
-        requires range { IsInRange (plan_of self) }
-        requires gathered { (traces : PeerNoValue → Entries) × HasGathered (plan_of self) (inquiry_in self) self traces }
+        requires range { IsInRange (plan_gathered self) }
+        requires gathered { (traces : PeerNoValue → Entries) × HasGathered (plan_gathered self) (inquiry_in self) self traces }
         ensures { IfOk result (λ sheets. (traces : PeerNoValue → Entries) (report : ReportValue)
-            → HasGathered (plan_of self.entry) (inquiry_in self.entry) self.entry traces
-            → AreLives (length (plan_of self.entry).peers) traces report.peers.items
+            → HasGathered (plan_gathered self.entry) (inquiry_in self.entry) self.entry traces
+            → AreLives (length (plan_gathered self.entry).peers) traces report.peers.items
             → map (λ x. (x.0, remains_of x.1)) report.peers.items ≡ remains.items
-            → sheets ≡ sheets_of (plan_of self.entry) (inquiry_in self.entry) report) }
+            → sheets ≡ sheets_of (plan_gathered self.entry) (inquiry_in self.entry) report) }
     {
         let Gathering {
             plan,
@@ -130,9 +130,9 @@ impl<'a> Gathering<'a> {
 impl<'a> Observer for Gathering<'a> {
     ghost Question = { PlanValue × InquiryValue };
 
-    ghost question = { λ gathering. (plan_of gathering, inquiry_in gathering) };
+    ghost question = { λ gathering. (plan_gathered gathering, inquiry_in gathering) };
 
-    ghost saw = { λ gathering traces. HasGathered (plan_of gathering) (inquiry_in gathering) gathering traces };
+    ghost saw = { λ gathering traces. HasGathered (plan_gathered gathering) (inquiry_in gathering) gathering traces };
 
     fn see(&mut self, peer: PeerNo, entries: &[StoredEntry]) -> Result<(), AllocError> {
         self.counting.see(peer, entries)?;

@@ -1,14 +1,14 @@
 -- What lines about the progress of a run add to errors.
-use Rattle.std.proofs.Common.{◌≡◌, ◌++◌, ◌∙◌, ◌⊎◌, ℕ, suc, Bool, true, false, List, [], ◌∷◌, map, Option, Some, None, inl, inr, refl, sym, ap, subst, subst₂, true≢false}
+use Rattle.std.proofs.Common.{◌≡◌, ◌++◌, ◌∙◌, ℕ, Bool, true, false, List, [], ◌∷◌, Option, Some, None, refl, sym, ap, subst, subst₂, true≢false}
 use Rattle.std.specs.Prelude.{Result, Ok, Err, IfErr, IfOk, OnErr, is_ok}
 use Rattle.std.specs.Borrow.{GName}
 use Rattle.std.specs.Io.KnownBytes.{Appends}
-use Rattle.gs_direct.specs.Stages.{HasShownAll, Shows}
+use Rattle.gs_direct.specs.Stages.{HasShownAll, HasShownFirst, HasShownMore}
 use Rattle.gs_direct.specs.declared.stages.Stage.{Stage}
 use Rattle.gs_plan.specs.declared.limits.Limits.{Limits}
 use Rattle.gs_plan.specs.declared.plan.Plan.{Plan}
 use Rattle.gs_program.specs.Program.{EndsAs, status_of}
-use Rattle.gs_program.specs.Progress.{EndsShowing, ExitsShowing, HasProgress, HasToldSince, ProgressStart, TellsAll, has_ended, if_wanted, progress_line}
+use Rattle.gs_program.specs.Progress.{AddsLines, EndsShowing, ExitsShowing, HasProgress, HasToldSince, ProgressStart, TellsAll, has_begun, has_ended, if_wanted, progress_line}
 use Rattle.gs_program.specs.declared.program.ExitStatus.{ExitStatus}
 use Rattle.gs_program.specs.declared.program.ExitStatus.TheVariants.{RunRefused}
 use Rattle.gs_report.specs.declared.report.Report.{Report}
@@ -67,16 +67,32 @@ none_so_far false rounds a = refl
 
 module _ {T S : Type 0} (has_shown : T → S → List Stage → Type 0) (old new : T) (wanted : Bool) (plan : Plan)
     (errors errors' : Option (List ℕ))
-    (land : (stages : List Stage) → Shows has_shown old new stages → TellsAll plan.rounds (if_wanted wanted stages) errors errors') where
+    (land : (stages : List Stage) → HasShownMore has_shown old new stages → TellsAll plan.rounds (if_wanted wanted stages) errors errors') where
+  of_report : (report : Report) → IsReport plan report → HasShownAll has_shown old new plan report → HasProgress wanted plan true errors errors'
+  of_report report is shown = record {
+    stages = shown.stages;
+    lines = land shown.stages shown.shows;
+    first = shown.first;
+    whole = λ _. (report, is, shown.are);
+  }
+
+  of_first : HasShownFirst has_shown old new plan → HasProgress wanted plan false errors errors'
+  of_first shown = record {
+    stages = shown.stages;
+    lines = land shown.stages shown.shows;
+    first = shown.first;
+    whole = λ never. absurd (true≢false (sym never));
+  }
+
   -- the lines of a run that left a report, or none
-  pub progress_ran : (ran : Result Report NetFault) → IfOk ran (IsReport plan) → IfOk ran (HasShownAll has_shown old new plan) → OnErr ran ((stages : List Stage) × Shows has_shown old new stages) → HasProgress wanted plan (is_ok ran) errors errors'
-  progress_ran (Ok report) is shown stopped = record { stages = shown.stages; lines = land shown.stages shown.shows; are = λ _. (report, is, shown.are) }
-  progress_ran (Err fault) is shown (stages, shows) = record { stages = stages; lines = land stages shows; are = λ never. absurd (true≢false (sym never)) }
+  pub progress_ran : (ran : Result Report NetFault) → IfOk ran (IsReport plan) → IfOk ran (HasShownAll has_shown old new plan) → OnErr ran (HasShownFirst has_shown old new plan) → HasProgress wanted plan (is_ok ran) errors errors'
+  progress_ran (Ok report) is shown stopped = of_report report is shown
+  progress_ran (Err fault) is shown stopped = of_first stopped
 
   -- the lines of a run of which a text was made, or none
-  pub progress_made : {A F : Type 0} → (made : Result A F) → IfOk made (λ text. (report : Report) × IsReport plan report × HasShownAll has_shown old new plan report) → OnErr made ((stages : List Stage) × Shows has_shown old new stages) → HasProgress wanted plan (is_ok made) errors errors'
-  progress_made (Ok text) (report, is, shown) stopped = record { stages = shown.stages; lines = land shown.stages shown.shows; are = λ _. (report, is, shown.are) }
-  progress_made (Err fault) shown (stages, shows) = record { stages = stages; lines = land stages shows; are = λ never. absurd (true≢false (sym never)) }
+  pub progress_made : {A F : Type 0} → (made : Result A F) → IfOk made (λ text. (report : Report) × IsReport plan report × HasShownAll has_shown old new plan report) → OnErr made (HasShownFirst has_shown old new plan) → HasProgress wanted plan (is_ok made) errors errors'
+  progress_made (Ok text) (report, is, shown) stopped = of_report report is shown
+  progress_made (Err fault) shown stopped = of_first stopped
 
 -- a program that ends as after a run had one without a fault
 pub ran_whole : (X : NetFault → Type 0) (ran : Result Report NetFault) (status : ExitStatus) → IfErr ran (λ fault. (status ≡ RunRefused) × X fault) → has_ended status ≡ true → is_ok ran ≡ true
@@ -85,20 +101,32 @@ ran_whole X (Err why) status fault ended = absurd (true≢false (sym ended ∙ a
 
 -- the lines of a run stay where the program ends, if it only ends as after a run where there was one
 pub progress_stays : (wanted : Bool) (plan : Plan) (a b : Bool) (errors errors' : Option (List ℕ)) → (b ≡ true → a ≡ true) → HasProgress wanted plan a errors errors' → HasProgress wanted plan b errors errors'
-progress_stays wanted plan a b errors errors' so h = record { stages = h.stages; lines = h.lines; are = λ ended. h.are (so ended) }
+progress_stays wanted plan a b errors errors' so h = record {
+  stages = h.stages;
+  lines = h.lines;
+  first = h.first;
+  whole = λ ended. h.whole (so ended);
+}
 
 module _ (limits : Limits) (text_of : Plan → Report → List ℕ) (in_parts : Bool) (needs : Bool) where
   -- after a run
-  pub ends_after : (wanted : Bool) (status : ExitStatus) (input input' output output' errors noted errors' : Option (List ℕ)) (plan : Plan) → IsScenario limits input plan → HasProgress wanted plan (has_ended status) errors noted → EndsAs limits text_of in_parts needs status input input' output output' noted errors' → EndsShowing limits text_of in_parts needs wanted status input input' output output' errors errors'
-  ends_after true status input input' output output' errors noted errors' plan scenario progress ends =
-      record { noted = noted; progress = inr (plan, scenario, progress); ends = ends }
-  ends_after false status input input' output output' errors noted errors' plan scenario progress ends =
+  pub ends_after : (wanted : Bool) (status : ExitStatus) (input input' output output' errors noted errors' : Option (List ℕ)) (plan : Plan) → has_begun status ≡ true → IsScenario limits input plan → HasProgress wanted plan (has_ended status) errors noted → EndsAs limits text_of in_parts needs status input input' output output' noted errors' → EndsShowing limits text_of in_parts needs wanted status input input' output output' errors errors'
+  ends_after true status input input' output output' errors noted errors' plan begun scenario progress ends = record {
+    noted = noted;
+    lines = subst (λ (was_run : Bool). AddsLines was_run limits (has_ended status) input errors noted) (sym begun) (plan, scenario, progress);
+    ends = ends;
+  }
+  ends_after false status input input' output output' errors noted errors' plan begun scenario progress ends =
       subst (λ (told : Option (List ℕ)). EndsAs limits text_of in_parts needs status input input' output output' told errors') progress.lines ends
 
   -- without a run
-  pub ends_unread : (wanted : Bool) (status : ExitStatus) (input input' output output' errors errors' : Option (List ℕ)) → has_ended status ≡ false → EndsAs limits text_of in_parts needs status input input' output output' errors errors' → EndsShowing limits text_of in_parts needs wanted status input input' output output' errors errors'
+  pub ends_unread : (wanted : Bool) (status : ExitStatus) (input input' output output' errors errors' : Option (List ℕ)) → has_begun status ≡ false → EndsAs limits text_of in_parts needs status input input' output output' errors errors' → EndsShowing limits text_of in_parts needs wanted status input input' output output' errors errors'
   ends_unread true status input input' output output' errors errors' unread ends =
-      record { noted = errors; progress = inl (refl, unread); ends = ends }
+      record {
+        noted = errors;
+        lines = subst (λ (was_run : Bool). AddsLines was_run limits (has_ended status) input errors errors) (sym unread) refl;
+        ends = ends;
+      }
   ends_unread false status input input' output output' errors errors' unread ends = ends
 
   -- with the status of the process

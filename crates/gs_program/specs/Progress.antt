@@ -1,8 +1,8 @@
 -- Lines about how far a run is, and how a program ends that may have written some.
-use Rattle.std.specs.Prelude.{◌≡◌, ◌++◌, ◌⊎◌, ℕ, suc, Bool, true, false, if◌then◌else◌, List, [], ◌∷◌, codes, decimal, map, Option}
+use Rattle.std.specs.Prelude.{◌≡◌, ◌++◌, ℕ, suc, Bool, true, false, if◌then◌else◌, List, [], ◌∷◌, codes, decimal, map, Option}
 use Rattle.std.specs.Borrow.{GName}
 use Rattle.gs_base.specs.declared.names.PeerNo.{PeerNo}
-use Rattle.gs_direct.specs.Stages.{AreStages}
+use Rattle.gs_direct.specs.Stages.{AreFirstStages, AreStages}
 use Rattle.gs_direct.specs.declared.stages.Stage.{Stage}
 use Rattle.gs_plan.specs.declared.limits.Limits.{Limits}
 use Rattle.gs_plan.specs.declared.plan.Plan.{Plan}
@@ -19,13 +19,13 @@ use Rattle.gs_streams.specs.Streams.{AppendsFront}
 -- ---- lines
 
 -- `round R of N`
-abbrev pub round_of : ℕ → ℕ → List ℕ
-round_of round rounds = codes "round " ++ decimal round ++ codes " of " ++ decimal rounds
+abbrev pub round_words : ℕ → ℕ → List ℕ
+round_words round rounds = codes "round " ++ decimal round ++ codes " of " ++ decimal rounds
 
 -- `round R of N, D deliveries`
 abbrev pub progress_line : ℕ → Stage → List ℕ
 progress_line rounds stage =
-    round_of stage.round rounds ++ codes ", " ++ decimal stage.deliveries ++ codes " deliveries\n"
+    round_words stage.round rounds ++ codes ", " ++ decimal stage.deliveries ++ codes " deliveries\n"
 
 -- a line of each stage in order, or a front of it, was added to errors
 abbrev pub TellsAll : ℕ → List Stage → (errors errors' : Option (List ℕ)) → Type 0
@@ -58,17 +58,28 @@ pub record HasToldSince (start : ProgressStart) (name : GName) (wanted : Bool) (
 
 -- ---- ends
 
--- there is a stage of each round of a run with a report, for the traces in that report
+-- these are the stages of all rounds of a run with a report
 abbrev pub AreOfReport : Plan → List Stage → Type 0
 AreOfReport plan stages =
     (report : Report) × IsReport plan report
     × AreStages plan (trace_of (map (λ (x : PeerNo × Finished). x.1) report.peers.items)) (suc plan.rounds) stages
 
--- Lines about a run of this plan are on errors, if they are wanted. If the run has ended, there is one for each round.
+-- If lines are wanted, a line or a front of it was added to errors for each of some first rounds of a run of this plan. For a
+-- run that has ended there is one for each round. If no lines are wanted, nothing was added.
 pub record HasProgress (wanted : Bool) (plan : Plan) (ended : Bool) (errors errors' : Option (List ℕ)) : Type 0 where
   pub stages : List Stage
   pub lines : TellsAll plan.rounds (if_wanted wanted stages) errors errors'
-  pub are : ended ≡ true → AreOfReport plan stages
+  pub first : AreFirstStages plan stages
+  pub whole : ended ≡ true → AreOfReport plan stages
+
+-- a program that ends so has begun to run its scenario
+abbrev pub has_begun : ExitStatus → Bool
+has_begun ends.Reported = true
+has_begun ends.ScenarioRefused = false
+has_begun ends.RunRefused = true
+has_begun ends.TextRefused = true
+has_begun ends.InputFailed = false
+has_begun ends.OutputFailed = true
 
 -- a program that ends so has run its scenario to the end
 abbrev pub has_ended : ExitStatus → Bool
@@ -79,19 +90,18 @@ has_ended ends.TextRefused = true
 has_ended ends.InputFailed = false
 has_ended ends.OutputFailed = true
 
--- the lines of a run that were on errors before the program ended so; there are none of a scenario that was not run
-abbrev pub Progresses : Limits → (wanted : Bool) → ExitStatus → (input errors errors' : Option (List ℕ)) → Type 0
-Progresses limits wanted status input errors errors' =
-    ((errors' ≡ errors) × (has_ended status ≡ false))
-    ⊎ ((plan : Plan) × IsScenario limits input plan × HasProgress wanted plan (has_ended status) errors errors')
+-- A run has added its lines to errors. Without a run, nothing was added.
+abbrev pub AddsLines : (was_run : Bool) → Limits → (ended : Bool) → (input errors errors' : Option (List ℕ)) → Type 0
+AddsLines false limits ended input errors errors' = errors' ≡ errors
+AddsLines true limits ended input errors errors' =
+    (plan : Plan) × IsScenario limits input plan × HasProgress true plan ended errors errors'
 
 -- for a program that takes scenarios within these limits, and writes this text, in parts or as a whole
 module _ (limits : Limits) (text_of : Plan → Report → List ℕ) (in_parts : Bool) (needs_threads : Bool) where
-  -- it has written lines about its run, and then it ends as one that writes none
-  pub record EndsAfter (wanted : Bool) (status : ExitStatus) (input input' output output' errors errors' : Option (List ℕ))
-      : Type 0 where
+  -- it has written the lines of its run, if there was one, and then it ends as one that writes none
+  pub record EndsAfter (status : ExitStatus) (input input' output output' errors errors' : Option (List ℕ)) : Type 0 where
     pub noted : Option (List ℕ)
-    pub progress : Progresses limits wanted status input errors noted
+    pub lines : AddsLines (has_begun status) limits (has_ended status) input errors noted
     pub ends : EndsAs limits text_of in_parts needs_threads status input input' output output' noted errors'
 
   -- how a program ends that writes such lines only if they are wanted
@@ -100,12 +110,12 @@ module _ (limits : Limits) (text_of : Plan → Report → List ℕ) (in_parts : 
   EndsShowing false status input input' output output' errors errors' =
       EndsAs limits text_of in_parts needs_threads status input input' output output' errors errors'
   EndsShowing true status input input' output output' errors errors' =
-      EndsAfter true status input input' output output' errors errors'
+      EndsAfter status input input' output output' errors errors'
 
   -- the process ends with the status of such an end
   pub record ExitsAfter (status : ℕ) (input input' output output' errors errors' : Option (List ℕ)) : Type 0 where
     pub ended : ExitStatus
-    pub ends : EndsAfter true ended input input' output output' errors errors'
+    pub ends : EndsAfter ended input input' output output' errors errors'
     pub status_is : status ≡ status_of ended
 
   abbrev pub ExitsShowing : (wanted : Bool) → ℕ → (input input' output output' errors errors' : Option (List ℕ)) → Type 0

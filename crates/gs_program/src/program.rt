@@ -1,6 +1,6 @@
 //! A program's run: what it reads, what it writes and how it ends.
 ghost use Rattle.std.specs.Io.KnownBytes.{IsAtEnd};
-ghost use Rattle.std.specs.Prelude.{◌≡◌, Bool, false, IfErr, IfOk, is_ok, List, OnOk, Option, ℕ};
+ghost use Rattle.std.specs.Prelude.{◌≡◌, Bool, false, true, IfErr, IfOk, is_ok, List, OnOk, Option, ℕ};
 ghost use Rattle.std.specs.Process.{exit_status};
 ghost use Rattle.gs_plan.specs.Plans.{IsInRange};
 ghost use Rattle.gs_seats.specs.Faults.{number_of};
@@ -10,7 +10,7 @@ ghost use Rattle.gs_report.specs.declared.report.Report.{Report as ReportValue};
 ghost use Rattle.gs_program.specs.Endings.{EndsPrinted, EndsUnprinted};
 ghost use Rattle.gs_program.specs.Printing.{Prints, StopsPrinting};
 ghost use Rattle.gs_program.specs.Program.{EndsAs, MayMeet, TellsFault, status_of};
-ghost use Rattle.gs_program.specs.Progress.{EndsShowing, ExitsShowing, HasProgress, has_ended};
+ghost use Rattle.gs_program.specs.Progress.{EndsShowing, ExitsShowing, HasProgress, has_begun};
 
 use crate::printer::{PrintFault, Printer};
 use crate::progress::Progress;
@@ -74,8 +74,8 @@ pub struct Program<P> {
 
 impl<P: Printer> Program<P> {
     /// Reads a scenario from the input, runs it on this thread without links, and then writes a text about its report to the
-    /// output. Where there is no text, a line on `errors`, or a front of it, says why. If progress is wanted, `errors` has lines
-    /// about the run before that.
+    /// output. Where there is no text, a line on `errors`, or a front of it, says why. If progress is wanted, it
+    /// first writes a line, or a front of it, for each round to `errors`.
     pub fn run<R, W, E>(&self, input: &mut R, output: &mut W, errors: &mut E) -> ExitStatus
     where
         R: Read,
@@ -124,7 +124,7 @@ impl<P: Printer> Program<P> {
             → EndsAs self.now.limits (P.text self.now.printer) P.in_parts needs status
             (R.remaining input.old) (R.remaining input.new)
             output output (E.contents errors.old) (E.contents errors.new)) }
-        ensures unread { IfErr result (λ status. has_ended status ≡ false) }
+        ensures unread { IfErr result (λ status. has_begun status ≡ false) }
     {
         let reading = read_input(self.alloc, self.limits, input);
         plan_after(self.alloc, self.limits, reading, errors)
@@ -163,6 +163,7 @@ impl<P: Printer> Program<P> {
         requires report { IfOk ran (IsReport plan.now) }
         ensures fault { IfErr ran (λ fault. (result ≡ ExitStatus.RunRefused)
             × TellsFault plan.now fault (E.contents errors.old) (E.contents errors.new)) }
+        ensures begun { has_begun result ≡ true }
         ensures ends { (needs : Bool) → IfErr ran (MayMeet needs)
             → (input input' : Option (List ℕ)) → IsScenario self.now.limits input plan.now → IsAtEnd input'
             → EndsAs self.now.limits (P.text self.now.printer) P.in_parts needs result input input'
@@ -191,6 +192,7 @@ impl<P: Printer> Program<P> {
         errors: &mut E,
     ) -> ExitStatus
         ensures end { EndsPrinted plan.now printed result (E.contents errors.old) (E.contents errors.new) }
+        ensures begun { has_begun result ≡ true }
         ensures ends { (needs : Bool) (report : ReportValue) → IsReport plan.now report
             → (output output' : Option (List ℕ))
             → Prints P.in_parts (P.text self.now.printer plan.now report) output output' printed
@@ -207,6 +209,7 @@ impl<P: Printer> Program<P> {
     /// Writes to `errors` why the text was not printed to its end.
     fn tell_unprinted<E: Write>(&self, plan: &Plan, fault: PrintFault, errors: &mut E) -> ExitStatus
         ensures end { EndsUnprinted plan.now fault result (E.contents errors.old) (E.contents errors.new) }
+        ensures begun { has_begun result ≡ true }
         ensures ends { (needs : Bool) (report : ReportValue) → IsReport plan.now report
             → (output output' : Option (List ℕ))
             → StopsPrinting P.in_parts (P.text self.now.printer plan.now report) output output' fault

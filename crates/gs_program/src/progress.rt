@@ -1,6 +1,6 @@
 //! Lines about how far a run is.
 ghost use Rattle.std.specs.Prelude.{◌≡◌, ◌∷◌, [], IfOk, string_bytes};
-ghost use Rattle.gs_program.specs.Progress.{HasToldSince, ProgressStart, TellsAll, if_wanted, progress_line, round_of};
+ghost use Rattle.gs_program.specs.Progress.{HasToldSince, ProgressStart, TellsAll, if_wanted, progress_line, round_words};
 
 use gs_direct::{Gauge, Stage};
 use gs_streams::try_to_write;
@@ -60,13 +60,13 @@ fn progress_line(alloc: Global, rounds: u64, stage: Stage) -> Result<String, All
     ensures { IfOk result (λ line. string_bytes line ≡ progress_line rounds stage) }
 {
     let Stage { round, deliveries } = stage;
-    let front = round_of(alloc, round, rounds)?;
+    let front = round_words(alloc, round, rounds)?;
     let word = " deliveries\n";
     Ok(format!(in alloc; "{front}, {deliveries}{word}")?)
 }
 
-fn round_of(alloc: Global, round: u64, rounds: u64) -> Result<String, AllocError>
-    ensures { IfOk result (λ text. string_bytes text ≡ round_of round rounds) }
+fn round_words(alloc: Global, round: u64, rounds: u64) -> Result<String, AllocError>
+    ensures { IfOk result (λ text. string_bytes text ≡ round_words round rounds) }
 {
     Ok(format!(in alloc; "round {round} of {rounds}")?)
 }

@@ -3,7 +3,7 @@ ghost use Rattle.std.specs.Prelude.{◌≡◌, ◌≤◌, Err, IfErr, IfOk, Matc
 ghost use Rattle.gs_plan.specs.Limits.{longest_input};
 ghost use Rattle.gs_program.specs.Program.{TellsRefusal};
 ghost use Rattle.gs_program.specs.Endings.{EndsUnread, GoesOn, GoesOnWith};
-ghost use Rattle.gs_program.specs.Progress.{has_ended};
+ghost use Rattle.gs_program.specs.Progress.{has_begun};
 
 use crate::program::ExitStatus;
 use crate::telling::tell_refusal;
@@ -27,7 +27,7 @@ pub fn plan_after<E: Write>(
     ensures goes_on { MatchResult reading
         (λ text. GoesOnWith limits text.items result (E.contents errors.old) (E.contents errors.new))
         (λ fault. EndsUnread limits fault result (E.contents errors.old) (E.contents errors.new)) }
-    ensures unread { IfErr result (λ status. has_ended status ≡ false) }
+    ensures unread { IfErr result (λ status. has_begun status ≡ false) }
 {
     match reading {
         Ok(text) => go_on(alloc, plan_from(alloc, limits, &text), errors),
@@ -43,7 +43,7 @@ fn go_on<E: Write>(
     errors: &mut E,
 ) -> Result<Plan, ExitStatus>
     ensures goes_on { GoesOn planned result (E.contents errors.old) (E.contents errors.new) }
-    ensures unread { IfErr result (λ status. has_ended status ≡ false) }
+    ensures unread { IfErr result (λ status. has_begun status ≡ false) }
 {
     match planned {
         Ok(plan) => Ok(plan),
@@ -59,7 +59,7 @@ fn end_unread<E: Write>(
     errors: &mut E,
 ) -> Result<Plan, ExitStatus>
     ensures ends { EndsUnread limits fault result (E.contents errors.old) (E.contents errors.new) }
-    ensures unread { IfErr result (λ status. has_ended status ≡ false) }
+    ensures unread { IfErr result (λ status. has_begun status ≡ false) }
 {
     match fault {
         ReadFault::Failed => {

@@ -1,16 +1,15 @@
 //! A program that makes its text while a run goes on.
 ghost use Rattle.std.specs.Io.KnownBytes.{IsAtEnd};
-ghost use Rattle.std.specs.Prelude.{◌≡◌, false, IfErr, IfOk, is_ok, List, OnErr, OnOk, Option, ℕ};
+ghost use Rattle.std.specs.Prelude.{◌≡◌, false, true, IfErr, IfOk, is_ok, List, OnErr, OnOk, Option, ℕ};
 ghost use Rattle.std.specs.Process.{exit_status};
 ghost use Rattle.gs_plan.specs.Plans.{IsInRange};
 ghost use Rattle.gs_plan.specs.declared.plan.Plan.{Plan as PlanValue};
 ghost use Rattle.gs_report.specs.declared.report.Report.{Report as ReportValue};
 ghost use Rattle.gs_seats.specs.Reports.{IsReport};
 ghost use Rattle.gs_streams.specs.Inputs.{IsScenario};
-ghost use Rattle.gs_direct.specs.Stages.{HasShownAll, Shows};
-ghost use Rattle.gs_direct.specs.declared.stages.Stage.{Stage as StageValue};
+ghost use Rattle.gs_direct.specs.Stages.{HasShownAll, HasShownFirst};
 ghost use Rattle.gs_program.specs.Program.{EndsAs};
-ghost use Rattle.gs_program.specs.Progress.{EndsShowing, ExitsShowing, HasProgress, has_ended};
+ghost use Rattle.gs_program.specs.Progress.{EndsShowing, ExitsShowing, HasProgress, has_begun};
 ghost use Rattle.gs_program.specs.Summaries.{IsSummary};
 
 use crate::program::ExitStatus;
@@ -34,7 +33,7 @@ pub trait Summarizer: Drop {
     /// is, at the end of each round.
     ///
     /// # Errors
-    /// `AllocError` when out of memory. The gauge has shown some stages by then.
+    /// `AllocError` when out of memory. The gauge has shown some first rounds by then.
     fn summarize<G: Gauge>(
         &self,
         alloc: Global,
@@ -45,8 +44,7 @@ pub trait Summarizer: Drop {
         ensures text { IfOk result (λ bytes. IsSummary (text self.now) plan.now bytes.items) }
         ensures shown { IfOk result (λ bytes. (report : ReportValue)
             × IsReport plan.now report × HasShownAll G.has_shown gauge.old gauge.new plan.now report) }
-        ensures stopped { OnErr result ((stages : List StageValue)
-            × Shows G.has_shown gauge.old gauge.new stages) };
+        ensures stopped { OnErr result (HasShownFirst G.has_shown gauge.old gauge.new plan.now) };
 }
 
 /// A program that runs a scenario, and writes a text about the run that was made meanwhile.
@@ -64,8 +62,8 @@ pub struct SummaryProgram<S> {
 
 impl<S: Summarizer> SummaryProgram<S> {
     /// Reads a scenario from the input, runs it on this thread without links, and then writes a text about its report to the
-    /// output. Where there is no text, a line on `errors`, or a front of it, says why. If progress is wanted, `errors` has lines
-    /// about the run before that.
+    /// output. Where there is no text, a line on `errors`, or a front of it, says why. If progress is wanted, it
+    /// first writes a line, or a front of it, for each round to `errors`.
     pub fn run<R, W, E>(&self, input: &mut R, output: &mut W, errors: &mut E) -> ExitStatus
     where
         R: Read,
@@ -108,7 +106,7 @@ impl<S: Summarizer> SummaryProgram<S> {
             → EndsAs self.now.limits (S.text self.now.summarizer) false false status
             (R.remaining input.old) (R.remaining input.new)
             output output (E.contents errors.old) (E.contents errors.new)) }
-        ensures unread { IfErr result (λ status. has_ended status ≡ false) }
+        ensures unread { IfErr result (λ status. has_begun status ≡ false) }
     {
         let reading = read_input(self.alloc, self.limits, input);
         plan_after(self.alloc, self.limits, reading, errors)
@@ -117,7 +115,8 @@ impl<S: Summarizer> SummaryProgram<S> {
     /// Runs a plan, and writes the text about its report.
     fn write<W: Write, E: Write>(&self, plan: &Plan, output: &mut W, errors: &mut E) -> ExitStatus
         requires { IsInRange plan.now }
-        ensures { (input input' : Option (List ℕ)) → IsScenario self.now.limits input plan.now → IsAtEnd input'
+        ensures begun { has_begun result ≡ true }
+        ensures ends { (input input' : Option (List ℕ)) → IsScenario self.now.limits input plan.now → IsAtEnd input'
             → EndsShowing self.now.limits (S.text self.now.summarizer) false false self.now.progress result input input'
             (W.contents output.old) (W.contents output.new) (E.contents errors.old) (E.contents errors.new) }
     {
@@ -155,7 +154,8 @@ impl<S: Summarizer> SummaryProgram<S> {
         errors: &mut E,
     ) -> ExitStatus
         requires { IsSummary (S.text self.now.summarizer) plan.now text.now }
-        ensures { (input input' : Option (List ℕ)) → IsScenario self.now.limits input plan.now → IsAtEnd input'
+        ensures begun { has_begun result ≡ true }
+        ensures ends { (input input' : Option (List ℕ)) → IsScenario self.now.limits input plan.now → IsAtEnd input'
             → EndsAs self.now.limits (S.text self.now.summarizer) false false result input input'
             (W.contents output.old) (W.contents output.new) (E.contents errors.old) (E.contents errors.new) }
     {

@@ -3,10 +3,10 @@ use Rattle.gs_base.specs.declared.names.PeerNo.{PeerNo}
 use Rattle.gs_plan.specs.declared.plan.Plan.{Plan}
 use Rattle.gs_plan.specs.Plans.{IsInRange}
 use Rattle.gs_report.specs.Seen.{AreLives}
-use Rattle.gs_direct.proofs.Staging.{on_err, shows_none}
+use Rattle.gs_direct.proofs.Staging.{first_none, on_err}
 use Rattle.gs_figure_sheets.specs.declared.inquiry.Inquiry.{Inquiry}
 use Rattle.gs_figure_sheets.specs.FigureSheets.{sheets_of}
-use Rattle.gs_figure_sheets.specs.Gathering.{HasGathered, inquiry_in, plan_of}
+use Rattle.gs_figure_sheets.specs.Gathering.{HasGathered, inquiry_in, plan_gathered}
 use Rattle.gossip_stats.proofs.program.sheets_for.Goals as goal
 
 pub run_observed-requires-clause-new : goal.run_observed-requires-clause-new
@@ -39,12 +39,12 @@ returns-in_ok-sheets-in-Ok-clause-answers g c =
     )
 
 pub returns-in_err-gathering-clause-stopped : goal.returns-in_err-gathering-clause-stopped
-returns-in_err-gathering-clause-stopped g c = on_err c.from_residual.result _ ([], shows_none g.G.Gauge.has_shown c.args.gauge.now)
+returns-in_err-gathering-clause-stopped g c = on_err c.from_residual.result _ (first_none g.G.Gauge.has_shown c.args.gauge.now c.args.plan.now)
 
 pub returns-in_err-sheets-in-Ok-clause-stopped : goal.returns-in_err-sheets-in-Ok-clause-stopped
 returns-in_err-sheets-in-Ok-clause-stopped g c =
     let (report, run, seen, are, shown) = c.in-Ok.ensures.run in
-    on_err c.from_residual-in_err-sheets-in-Ok.result _ (shown.stages, shown.shows)
+    on_err c.from_residual-in_err-sheets-in-Ok.result _ (record { stages = shown.stages; shows = shown.shows; first = shown.first })
 
 pub returns-in-Err-clause-stopped : goal.returns-in-Err-clause-stopped
 returns-in-Err-clause-stopped g c = c.in-Err.ensures.stopped

@@ -13,7 +13,7 @@ use Rattle.gs_seats.specs.Rounds.{peer_no, seat_in, trace_of}
 use Rattle.gs_rules.specs.Rounds.{Closing, moment_of}
 use Rattle.gs_direct.proofs.Observing.{lives_traces}
 use Rattle.gs_direct.specs.Stages.{HasShownLives}
-use Rattle.gs_direct.proofs.Staging.{on_err, shows_none, stages_same}
+use Rattle.gs_direct.proofs.Staging.{first_none, on_err, stages_same}
 use Rattle.gs_direct.proofs.run.lives_of.Goals as goal
 
 if_ok : {A E : Type 0} (r : Result A E) (P Q : A → Type 0) → ((x : A) → P x → Q x) → IfOk r P → IfOk r Q
@@ -67,26 +67,27 @@ returns-clause-shown g c =
     let e = c.in_ok-run_all.ensures.ended in
     let now = moment_of (seat_in plan (peer_no 0)) Closing in
     let same = lent count news _ (all_closed plan e.olds news e.mail e.at_end e.closed ∙ sym counted) in
-    let (stages, shows, are) = c.in_ok-run_all.ensures.shown in
+    let (stages, shows, first, are) = c.in_ok-run_all.ensures.shown in
     if_ok c.finish_all.result _ _ (λ lives is.
     subst (λ xs. HasShownLives g.G.Gauge.has_shown c.args.gauge.now c.run_all.new.gauge plan (map (λ (x : PeerNo × Finished). x.1) xs)) (sym (is ∙ ap (map (numbered plan)) same))
     (record {
       stages = stages;
       shows = shows;
+      first = first;
       are = stages_same plan (trace_at news) (trace_of (map (λ (x : PeerNo × Finished). x.1) (map (numbered plan) news)))
           (λ p. sym (lives_traces now news p ∙ ap (λ (lives : List Finished). trace_of lives p) (sym (seconds plan news)))) (suc plan.rounds) stages are;
     })) c.finish_all.ensures
 
 pub returns-in_err-peers-clause-stopped : goal.returns-in_err-peers-clause-stopped
-returns-in_err-peers-clause-stopped g c = on_err c.from_residual.result _ ([], shows_none g.G.Gauge.has_shown c.args.gauge.now)
+returns-in_err-peers-clause-stopped g c = on_err c.from_residual.result _ (first_none g.G.Gauge.has_shown c.args.gauge.now c.args.plan.now)
 
 pub returns-in_err-post-clause-stopped : goal.returns-in_err-post-clause-stopped
-returns-in_err-post-clause-stopped g c = on_err c.from_residual-in_err-post.result _ ([], shows_none g.G.Gauge.has_shown c.args.gauge.now)
+returns-in_err-post-clause-stopped g c = on_err c.from_residual-in_err-post.result _ (first_none g.G.Gauge.has_shown c.args.gauge.now c.args.plan.now)
 
 pub returns-in_err-run_all-clause-stopped : goal.returns-in_err-run_all-clause-stopped
 returns-in_err-run_all-clause-stopped g c = on_err c.from_residual-in_err-run_all.result _ c.in_err-run_all.ensures.stopped
 
 pub returns-clause-stopped : goal.returns-clause-stopped
 returns-clause-stopped g c =
-    let (stages, shows, are) = c.in_ok-run_all.ensures.shown in
-    on_err c.finish_all.result _ (stages, shows)
+    let (stages, shows, first, are) = c.in_ok-run_all.ensures.shown in
+    on_err c.finish_all.result _ (record { stages = stages; shows = shows; first = first })

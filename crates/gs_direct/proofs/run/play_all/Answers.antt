@@ -1,4 +1,4 @@
-use Rattle.std.proofs.Common.{◌≡◌, ◌∙◌, ◌+◌, ◌++◌, [], ◌∷◌, suc, length, map, refl, subst, rules, arith}
+use Rattle.std.proofs.Common.{◌≡◌, ◌<◌, ◌∙◌, ◌+◌, ◌++◌, [], ◌∷◌, suc, length, map, refl, subst, rules, arith}
 use Rattle.gs_seats.proofs.ByNumber.{as_many}
 use Rattle.gs_seats.specs.Rounds.{numbers}
 use Rattle.std.specs.List.{range_with_len}
@@ -6,7 +6,7 @@ use Rattle.gs_direct.specs.Runs.{AreAt, IsAt, trace_at}
 use Rattle.gs_direct.specs.Stages.{AreStages}
 use Rattle.gs_direct.specs.declared.stages.Stage.{Stage}
 use Rattle.gs_direct.proofs.Observing.{rounds_order}
-use Rattle.gs_direct.proofs.Staging.{count_begins, counted_since, on_err, one_stage, shows_more, shows_none, stages_grow, stages_more}
+use Rattle.gs_direct.proofs.Staging.{count_begins, first_stages, on_err, one_stage, saturated_since, shows_more, shows_none, stages_grow, stages_more}
 use Rattle.gs_direct.proofs.run.play_all.Goals as goal
 
 pub observe-requires-clause-many : goal.observe-requires-clause-many
@@ -44,7 +44,7 @@ loop-round-preserved g c =
     let grown = c.in_ok-play_round.ensures.grown in
     let next : suc r ≡ r + 1 = omega arith in
     let stage : Stage = record { round = r; deliveries = c.delivered_by_now-deliveries.result } in
-    let count = counted_since (length plan.peers) (trace_at c.loop-round.peers) (trace_at peers) c.loop-round.deliveries c.delivered_by_now-deliveries.result grown h.count c.delivered_by_now-deliveries.ensures in
+    let count = saturated_since (length plan.peers) (trace_at c.loop-round.peers) (trace_at peers) c.loop-round.deliveries c.delivered_by_now-deliveries.result grown h.count c.delivered_by_now-deliveries.ensures in
     record {
       at = subst (λ n. AreAt plan n peers c.play_round.new.post.mail.items) next after;
       room = c.in_ok-play_round.ensures.next;
@@ -59,16 +59,34 @@ loop-round-preserved g c =
     }
 
 pub returns-in_err-play_round-clause-stopped : goal.returns-in_err-play_round-clause-stopped
-returns-in_err-play_round-clause-stopped g c = on_err c.from_residual.result _ (c.loop-round.invariant.stages, c.loop-round.invariant.shows)
+returns-in_err-play_round-clause-stopped g c =
+    let h = c.loop-round.invariant in
+    let below : c.loop-round.round < c.args.plan.now.rounds + 1 = search rules in
+    on_err c.from_residual.result _ (record {
+      stages = h.stages;
+      shows = h.shows;
+      first = first_stages c.args.plan.now c.loop-round.round c.loop-round.peers h.stages (omega (arith, below)) h.at.each h.are;
+    })
 
 pub returns-in_err-observe-clause-stopped : goal.returns-in_err-observe-clause-stopped
-returns-in_err-observe-clause-stopped g c = on_err c.from_residual-in_err-observe.result _ (c.loop-round.invariant.stages, c.loop-round.invariant.shows)
+returns-in_err-observe-clause-stopped g c =
+    let h = c.loop-round.invariant in
+    let below : c.loop-round.round < c.args.plan.now.rounds + 1 = search rules in
+    on_err c.from_residual-in_err-observe.result _ (record {
+      stages = h.stages;
+      shows = h.shows;
+      first = first_stages c.args.plan.now c.loop-round.round c.loop-round.peers h.stages (omega (arith, below)) h.at.each h.are;
+    })
 
 pub returns-clause-shown : goal.returns-clause-shown
 returns-clause-shown g c =
     let h = c.loop-round.invariant in
-    let ends : c.loop-round.round ≡ suc c.args.plan.now.rounds = search rules in
-    (h.stages, h.shows, subst (λ n. AreStages c.args.plan.now (trace_at c.loop-round.peers) n h.stages) ends h.are)
+    let ends : c.loop-round.round ≡ suc c.args.plan.now.rounds = search rules in (
+      h.stages,
+      h.shows,
+      first_stages c.args.plan.now c.loop-round.round c.loop-round.peers h.stages (omega (arith, ends)) h.at.each h.are,
+      subst (λ n. AreStages c.args.plan.now (trace_at c.loop-round.peers) n h.stages) ends h.are,
+    )
 
 pub delivered_by_now-deliveries-requires-clause-many : goal.delivered_by_now-deliveries-requires-clause-many
 delivered_by_now-deliveries-requires-clause-many g c =

@@ -1,7 +1,7 @@
 use Rattle.std.specs.Prelude.{◌≡◌, List, length}
 use Rattle.gs_direct.specs.Observing.{HasSeen}
 use Rattle.gs_direct.specs.Runs.{AreAt, IsRoomFor, trace_at}
-use Rattle.gs_direct.specs.Stages.{AreStages, Shows, counted, delivered_to}
+use Rattle.gs_direct.specs.Stages.{AreStages, HasShownMore, delivered_to, saturated}
 use Rattle.gs_direct.specs.declared.stages.Stage.{Stage}
 use Rattle.gs_direct.proofs.run.play_all.Given as goal
 
@@ -12,8 +12,8 @@ invariant-loop-round g l = record {
   room : IsRoomFor l.plan l.post.next.items;
   saw : HasSeen (g.O.Observer.saw l.observer) (trace_at l.peers);
   question : g.O.Observer.question l.observer ≡ g.O.Observer.question l.fn.observer;
-  count : l.deliveries ≡ counted (delivered_to (length l.plan.peers) (trace_at l.peers));
+  count : l.deliveries ≡ saturated (delivered_to (length l.plan.peers) (trace_at l.peers));
   stages : List Stage;
-  shows : Shows g.G.Gauge.has_shown l.fn.gauge l.gauge stages;
+  shows : HasShownMore g.G.Gauge.has_shown l.fn.gauge l.gauge stages;
   are : AreStages l.plan (trace_at l.peers) l.round stages;
 }

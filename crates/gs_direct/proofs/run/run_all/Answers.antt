@@ -25,20 +25,21 @@ returns-in_err-play_all-clause-stopped g c = on_err c.from_residual.result _ c.i
 
 pub returns-in_err-close_all-clause-stopped : goal.returns-in_err-close_all-clause-stopped
 returns-in_err-close_all-clause-stopped g c =
-    let (stages, shows, are) = c.in_ok-play_all.ensures.shown in
-    on_err c.from_residual-in_err-close_all.result _ (stages, shows)
+    let (stages, shows, first, are) = c.in_ok-play_all.ensures.shown in
+    on_err c.from_residual-in_err-close_all.result _ (record { stages = stages; shows = shows; first = first })
 
 pub returns-in_err-observe-clause-stopped : goal.returns-in_err-observe-clause-stopped
 returns-in_err-observe-clause-stopped g c =
-    let (stages, shows, are) = c.in_ok-play_all.ensures.shown in
-    on_err c.from_residual-in_err-observe.result _ (stages, shows)
+    let (stages, shows, first, are) = c.in_ok-play_all.ensures.shown in
+    on_err c.from_residual-in_err-observe.result _ (record { stages = stages; shows = shows; first = first })
 
 pub returns-clause-shown : goal.returns-clause-shown
 returns-clause-shown g c =
     let plan = c.args.plan.now in
-    let (stages, shows, are) = c.in_ok-play_all.ensures.shown in (
+    let (stages, shows, first, are) = c.in_ok-play_all.ensures.shown in (
       stages,
       shows,
+      first,
       stages_grow plan (trace_at c.play_all.new.peers) (trace_at c.close_all.new.peers)
           (grown plan c.play_all.new.peers c.close_all.new.peers c.play_all.new.post.mail.items c.in_ok-play_all.ensures.played c.in_ok-close_all.ensures) (suc plan.rounds) stages are,
     )

@@ -3,8 +3,8 @@ use Rattle.std.proofs.lemmas.List.{take_more}
 use Rattle.std.proofs.lemmas.List.Sums.{sum_by_push}
 use Rattle.gs_rules.specs.declared.trace.Entry.{Entry}
 use Rattle.gs_rules.specs.Tables.{Entries}
-use Rattle.gs_direct.specs.Stages.{counted, delivered_in}
-use Rattle.gs_direct.proofs.Staging.{counted_once}
+use Rattle.gs_direct.specs.Stages.{delivered_in, saturated}
+use Rattle.gs_direct.proofs.Staging.{saturated_once}
 use Rattle.gs_direct.proofs.stages.delivered_in.Goals as goal
 
 pub loop-entry-preserved : goal.loop-entry-preserved
@@ -15,7 +15,7 @@ loop-entry-preserved c =
     let more : take (n + 1) es ≡ take n es ++ e ∷ [] = take_more es n e c.loop-entry-test.true ∙ ap (λ (x : Entry). take n es ++ x ∷ []) (sym c.entry-item.is) in
     let f : Entry → ℕ = λ x. length x.effects.delivered in
     c.saturating_add-all.ensures
-    ∙ ap₂ (λ (all more : ℕ). counted (all + more)) c.loop-entry.invariant (ap length c.delivered.ensures)
-    ∙ counted_once (delivered_in (take n es)) (length e.effects.delivered)
-    ∙ ap counted (sym (sum_by_push f (take n es) e))
-    ∙ ap (λ (L : Entries). counted (delivered_in L)) (sym more)
+    ∙ ap₂ (λ (all more : ℕ). saturated (all + more)) c.loop-entry.invariant (ap length c.delivered.ensures)
+    ∙ saturated_once (delivered_in (take n es)) (length e.effects.delivered)
+    ∙ ap saturated (sym (sum_by_push f (take n es) e))
+    ∙ ap (λ (L : Entries). saturated (delivered_in L)) (sym more)

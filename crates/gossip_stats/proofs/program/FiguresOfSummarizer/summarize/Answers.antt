@@ -1,7 +1,7 @@
 use Rattle.std.proofs.Common.{◌≡◌, ◌∙◌, List, [], ap, ap₂, sym}
 use Rattle.gs_base.specs.declared.names.PeerNo.{PeerNo}
 use Rattle.gs_sheets.specs.declared.sheet.Sheet.{Sheet}
-use Rattle.gs_direct.proofs.Staging.{on_err, shows_none}
+use Rattle.gs_direct.proofs.Staging.{first_none, on_err}
 use Rattle.gs_figure_sheets.specs.declared.inquiry.Inquiry.{Inquiry}
 use Rattle.gs_figure_sheets.specs.FigureSheets.{inquiry_of, sheets_of}
 use Rattle.gs_figure_sheets.specs.Wishes.{Wishes}
@@ -28,10 +28,10 @@ returns-clause-shown g c =
     (report, run, shown)
 
 pub returns-in_err-wanted-clause-stopped : goal.returns-in_err-wanted-clause-stopped
-returns-in_err-wanted-clause-stopped g c = on_err c.from_residual.result _ ([], shows_none g.G.Gauge.has_shown c.args.gauge.now)
+returns-in_err-wanted-clause-stopped g c = on_err c.from_residual.result _ (first_none g.G.Gauge.has_shown c.args.gauge.now c.args.plan.now)
 
 pub returns-in_err-inquiry-clause-stopped : goal.returns-in_err-inquiry-clause-stopped
-returns-in_err-inquiry-clause-stopped g c = on_err c.from_residual-in_err-inquiry.result _ ([], shows_none g.G.Gauge.has_shown c.args.gauge.now)
+returns-in_err-inquiry-clause-stopped g c = on_err c.from_residual-in_err-inquiry.result _ (first_none g.G.Gauge.has_shown c.args.gauge.now c.args.plan.now)
 
 pub returns-in_err-sheets-clause-stopped : goal.returns-in_err-sheets-clause-stopped
 returns-in_err-sheets-clause-stopped g c = on_err c.from_residual-in_err-sheets.result _ c.in_err-sheets.ensures.stopped
@@ -39,4 +39,4 @@ returns-in_err-sheets-clause-stopped g c = on_err c.from_residual-in_err-sheets.
 pub returns-in_err-text-clause-stopped : goal.returns-in_err-text-clause-stopped
 returns-in_err-text-clause-stopped g c =
     let (report, run, are, shown) = c.in_ok-sheets.ensures.answers in
-    on_err c.from_residual-in_err-text.result _ (shown.stages, shown.shows)
+    on_err c.from_residual-in_err-text.result _ (record { stages = shown.stages; shows = shown.shows; first = shown.first })

@@ -4,8 +4,8 @@ use Rattle.std.specs.Io.KnownBytes.{Appends}
 use Rattle.gs_streams.specs.Streams.{AppendsFront}
 use Rattle.gs_program.proofs.summary.SummaryProgram.write_summary.Goals as goal
 
-pub returns-in-Ok : goal.returns-in-Ok
-returns-in-Ok g c = λ input input' scenario at_end. record {
+pub returns-in-Ok-clause-ends : goal.returns-in-Ok-clause-ends
+returns-in-Ok-clause-ends g c = λ input input' scenario at_end. record {
   plan = c.args.plan.now;
   scenario = scenario;
   at_end = at_end;
@@ -15,8 +15,8 @@ returns-in-Ok g c = λ input input' scenario at_end. record {
   silent = Keeps-refl _;
 }
 
-pub returns-in-Err : goal.returns-in-Err
-returns-in-Err g c = λ input input' scenario at_end. record {
+pub returns-in-Err-clause-ends : goal.returns-in-Err-clause-ends
+returns-in-Err-clause-ends g c = λ input input' scenario at_end. record {
   plan = c.args.plan.now;
   scenario = scenario;
   report = c.requires.report;
