@@ -26,7 +26,7 @@ print_options() {
   --words           says why a scenario is refused, and in which line, in words on standard error, as on a terminal
 END
   [ -z "${can_progress-}" ] || cat <<'END'
-  --progress        writes a line about each round to standard error. A terminal shows how far a run is without this option
+  --progress        writes a line about each round to standard error. On a terminal such a run shows how far it is anyway
 END
   cat <<END
   --proved          runs only proved programs
@@ -253,7 +253,7 @@ run_changed() {
   # Nothing is left to do after a program that is proved and whose refusal needs no words.
   if [ ${#is_unproved[@]} -eq 0 ] && [ -z "$has_words" ] && is_as_it_comes; then
     say_reading
-    GLIBC_TUNABLES=$tunables exec "$(program_of "$program")" "${large[@]}" "${arguments[@]}"
+    GLIBC_TUNABLES=$tunables exec "$(program_of "$program")" "${large[@]}" ${has_progress:+--progress} "${arguments[@]}"
   fi
   make_ready "${programs[@]}"
   if [ -z "$program" ]; then

@@ -52,6 +52,7 @@ check_figures() {
   expect 'figures of standard input' 0 "$figures" '' stats_of_input
   expect 'figures of a changed scenario' 0 "$figures" '' stats --workers 1 --set rounds=10 "$example"
   rounds=$(printf 'round %s of 10, %s deliveries\n' 0 0 1 0 2 1 3 2 4 2 5 2 6 2 7 2 8 2 9 2 10 2)
+  expect 'figures with the rounds' 0 "$figures" "$rounds" stats --progress "$example"
   expect 'figures with the rounds, by the program' 0 "$figures" "$rounds" program_of_figures --progress
   expect_like 'figures as CSV' 0 '*,*,*' '' stats --csv "$example"
   expect_like 'figures of rounds as JSON' 0 '{*"rounds":[[]*"round":10,*' '' stats --json --rounds "$example"

@@ -71,6 +71,13 @@ tried() {
   echo scenario | in_tree "tried=$1" gossip_sim "${@:2}"
 }
 
+# On a terminal, which is standard input, output and error.
+tried_on_terminal() {
+  echo scenario >"$room/scenario"
+  PATH="$room/fake/bin:$PATH" GUNTHARU_COMPILER="$room/fake/compiler" TMPDIR="$room/temporary" tried=0 \
+    on_terminal "$room/tree/bin/gossip_sim" "$@" "$room/scenario"
+}
+
 tried_figures() {
   echo scenario | in_tree tried=0 gossip_stats "$@"
 }
@@ -147,8 +154,16 @@ check_unproved() {
   expect 'a printed change without proof' 0 'gossip_edit seed=2 scenario' \
     "$(unproved scenario 'gossip_edit is not built')"$'\ntold by gossip_edit' tried 0 --print --seed 2
   expect 'a direct run without proof' 0 'gossip_sim --direct scenario' "$said"$'\ntold by gossip_sim' tried 0 --direct
-  expect 'a direct check' 64 '' 'gossip_sim: --direct goes with a run, not with --check or --print; --help says more' \
+  expect 'a direct run with the rounds' 0 'gossip_sim --progress --direct scenario' "$said"$'\ntold by gossip_sim' \
+    tried 0 --progress --direct
+  expect 'rounds of a run over links' 64 '' \
+    'gossip_sim: --progress goes with --direct, since a run over links writes no such lines; --help says more' tried 0 --progress
+  expect 'a direct check' 64 '' 'gossip_sim: --direct and --progress go with a run, not with --check or --print; --help says more' \
     tried 0 --direct --check
+  expect 'rounds of a check' 64 '' \
+    'gossip_sim: --direct and --progress go with a run, not with --check or --print; --help says more' tried 0 --check --progress
+  expect_like 'a run over links on a terminal' 0 '*gossip_sim  scenario*' '' tried_on_terminal
+  expect_like 'a direct run on a terminal' 0 '*gossip_sim --progress --direct scenario*' '' tried_on_terminal --direct
   expect 'a large run' 0 'gossip_sim --large --direct scenario' "$said"$'\ntold by gossip_sim' tried 0 --direct --large
   expect 'a large run over links' 64 '' \
     'gossip_sim: --large goes with --direct, since a run over links has at most 64 peers; --help says more' tried 0 --large

@@ -2,10 +2,11 @@
 ghost use Rattle.std.specs.Prelude.{false, map, string_bytes, true};
 ghost use Rattle.std.specs.Process.{exit_status};
 ghost use Rattle.gs_report.specs.Text.{report_text};
-ghost use Rattle.gs_program.specs.Program.{EndsAs, EndsWith};
-ghost use Rattle.gossip_sim.specs.Arguments.{EndsFor, asked_for, limits_of, needs_threads};
+ghost use Rattle.gs_program.specs.Program.{EndsAs};
+ghost use Rattle.gs_program.specs.Progress.{EndsShowing};
+ghost use Rattle.gossip_sim.specs.Arguments.{EndsFor, EndsIn, asked_for};
 
-use crate::arguments::{Way, asked_by, refuse};
+use crate::arguments::{Direct, Way, asked_by, refuse};
 use gs_net::run_net;
 use gs_peer::{Gate, NoGate};
 use gs_plan::{Limits, Plan};
@@ -39,8 +40,9 @@ impl Printer for Lines {
 }
 
 /// Runs the program with these arguments over these streams, and returns the exit status of its process. It runs peers over
-/// links, or with `--direct` without links. With `--direct` and `--large` it takes the large limits. It refuses other
-/// arguments: then it reads no input, writes the usage or a front of it to `errors`, and ends with 64.
+/// links, or with `--direct` without links. With `--direct`, it takes the large limits for `--large`, and writes lines about
+/// the run to `errors` for `--progress`. It refuses other arguments: then it reads no input, writes the usage or a front of it to
+/// `errors`, and ends with 64.
 pub fn run_for<T, R, W, E>(
     rt: &T,
     arguments: &[String],
@@ -76,14 +78,14 @@ where
     R: Read,
     W: Write,
     E: Write,
-    ensures { EndsWith (limits_of way) report_text false (needs_threads way) (exit_status result)
+    ensures { EndsIn way (exit_status result)
         (R.remaining input.old) (R.remaining input.new)
         (W.contents output.old) (W.contents output.new) (E.contents errors.old) (E.contents errors.new) }
 {
     match way {
         Way::OverLinks => ExitCode::from(run(rt, &NoGate, input, output, errors)),
-        Way::WithoutLinks(limits) => {
-            ExitCode::from(run_direct(rt.alloc(), limits, input, output, errors))
+        Way::WithoutLinks(direct) => {
+            ExitCode::from(run_direct(rt.alloc(), direct, input, output, errors))
         },
     }
 }
@@ -123,10 +125,11 @@ where
 }
 
 /// Reads a scenario from the input, runs it without links, and writes its report to the output after the run. Where there is
-/// no report, it writes a line with the reason, or a front of that line, to `errors`.
+/// no report, it writes a line with the reason, or a front of that line, to `errors`. If progress is wanted, it first
+/// writes a line, or a front of it, for each round to `errors`.
 pub fn run_direct<R, W, E>(
     alloc: Global,
-    limits: Limits,
+    direct: Direct,
     input: &mut R,
     output: &mut W,
     errors: &mut E,
@@ -135,13 +138,14 @@ where
     R: Read,
     W: Write,
     E: Write,
-    ensures { EndsAs limits report_text false false result (R.remaining input.old) (R.remaining input.new)
+    ensures { EndsShowing direct.limits report_text false false direct.progress result
+        (R.remaining input.old) (R.remaining input.new)
         (W.contents output.old) (W.contents output.new) (E.contents errors.old) (E.contents errors.new) }
 {
     let program = Program {
         alloc,
-        limits,
-        progress: false,
+        limits: direct.limits,
+        progress: direct.progress,
         printer: Lines,
     };
     program.run(input, output, errors)

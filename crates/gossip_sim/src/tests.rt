@@ -7,10 +7,9 @@ mod meshes;
 mod one_output;
 mod standings;
 
-use crate::program::tests::Host;
+use crate::program::tests::{Host, PLAIN};
 use crate::program::{run, run_direct};
 use gs_peer::{Gate, NoGate};
-use gs_plan::Limits;
 use gs_program::ExitStatus;
 use std::alloc::{AllocError, Global};
 use std::sync::atomic::{AtomicU64, Ordering};
@@ -68,13 +67,7 @@ fn is_reported_over_links<T: Host, G: Gate + Sync>(
 fn is_reported_directly(alloc: Global, text: &str, report: &str) -> bool {
     let mut output = Vec::new(alloc);
     let mut errors = Vec::new(alloc);
-    let ended = run_direct(
-        alloc,
-        Limits::Standard,
-        &mut text.as_bytes(),
-        &mut output,
-        &mut errors,
-    );
+    let ended = run_direct(alloc, PLAIN, &mut text.as_bytes(), &mut output, &mut errors);
     ended == ExitStatus::Reported && output.as_slice() == report.as_bytes() && errors.is_empty()
 }
 

@@ -48,15 +48,34 @@ const REPORT: &str = "delivered a 200 news 616263\ndelivered b 300 news 616263\n
     mesh a news b\nmesh b news a\n\
     score a b 0.000000\nscore b a 0.000000\nlinks 2 settled\n";
 
+/// `a` publishes in round 2 and has its own message then, and `b` has it a round later.
+const PROGRESS: &str = "round 0 of 10, 0 deliveries\nround 1 of 10, 0 deliveries\n\
+    round 2 of 10, 1 deliveries\nround 3 of 10, 2 deliveries\n\
+    round 4 of 10, 2 deliveries\nround 5 of 10, 2 deliveries\n\
+    round 6 of 10, 2 deliveries\nround 7 of 10, 2 deliveries\n\
+    round 8 of 10, 2 deliveries\nround 9 of 10, 2 deliveries\n\
+    round 10 of 10, 2 deliveries\n";
+
 /// What a run asks of a runtime.
 pub trait Host: Threads + Wait + RandomSource + AllocGlobal + Sync + Send + Copy {}
 
 impl<T: Threads + Wait + RandomSource + AllocGlobal + Sync + Send + Copy> Host for T {}
 
+/// Without links, and with nothing on the error output.
+pub const PLAIN: Direct = Direct {
+    limits: Limits::Standard,
+    progress: false,
+};
+
+const LARGE: Direct = Direct {
+    limits: Limits::Large,
+    progress: false,
+};
+
 const WAYS: [Way; 3] = [
     Way::OverLinks,
-    Way::WithoutLinks(Limits::Standard),
-    Way::WithoutLinks(Limits::Large),
+    Way::WithoutLinks(PLAIN),
+    Way::WithoutLinks(LARGE),
 ];
 
 /// Whether a run on an input ends so, with this on the output and that on errors.
@@ -76,13 +95,7 @@ fn ends<T: Host, R: Read>(
 
 pub fn is_refused<T: Host>(rt: &T, input: &[u8], line: &str) -> bool {
     ends(rt, Way::OverLinks, &mut &input[..], 1, ("", line))
-        && ends(
-            rt,
-            Way::WithoutLinks(Limits::Standard),
-            &mut &input[..],
-            1,
-            ("", line),
-        )
+        && ends(rt, Way::WithoutLinks(PLAIN), &mut &input[..], 1, ("", line))
 }
 
 /// A writer that takes `step` bytes at a time and `room` in all.
@@ -255,7 +268,7 @@ fn a_run_without_a_thread_is_refused_only_over_links(rt: HostRuntime) {
     assert!(rt;
         ends(
             &Unseeded(rt),
-            Way::WithoutLinks(Limits::Standard),
+            Way::WithoutLinks(PLAIN),
             &mut &text[..],
             0,
             (REPORT, "")
@@ -289,7 +302,7 @@ fn ends_for<T: Host>(
 fn arguments_say_how_peers_are_run(rt: HostRuntime) -> Result<(), AllocError> {
     let usage = (
         "",
-        "usage: gossip_sim [--direct [--large]]\n\
+        "usage: gossip_sim [--direct [--large] [--progress]]\n\
          --large: up to 4096 peers; a run over links has up to 64\n",
     );
     assert!(rt; ends_for(&rt, &[], 0, (REPORT, ""))?);
@@ -302,6 +315,18 @@ fn arguments_say_how_peers_are_run(rt: HostRuntime) -> Result<(), AllocError> {
     assert!(rt; ends_for(&rt, &["--large"], 64, usage)?);
     assert!(rt; ends_for(&rt, &["--large", "--large"], 64, usage)?);
     assert!(rt; ends_for(&rt, &["--direct", "--large", "--large"], 64, usage)?);
+    assert!(rt; ends_for(&rt, &["--progress"], 64, usage)?);
+    assert!(rt; ends_for(&rt, &["--progress", "--large"], 64, usage)?);
+    assert!(rt; ends_for(&rt, &["--direct", "--progress", "--progress"], 64, usage)?);
+    assert!(rt; ends_for(&rt, &["--direct", "--progress"], 0, (REPORT, PROGRESS))?);
+    assert!(rt;
+        ends_for(
+            &rt,
+            &["--large", "--progress", "--direct"],
+            0,
+            (REPORT, PROGRESS)
+        )?
+    );
     // (a thread is asked for only over links)
     assert!(rt; ends_for(&Unseeded(rt), &[], 2, ("", "run refused: 25\n"))?);
     assert!(rt; ends_for(&Unseeded(rt), &["--direct"], 0, (REPORT, ""))?);

@@ -4,6 +4,7 @@ ghost use Rattle.gs_plan.specs.declared.limits.Limits.TheVariants.{Standard};
 ghost use Rattle.gs_program.specs.Program.{Reported};
 ghost use Rattle.gs_report.specs.Text.{report_text};
 
+use crate::arguments::Direct;
 use crate::laws::two_runs_write_the_same;
 use crate::program::tests::Host;
 use crate::program::{run, run_direct};
@@ -57,7 +58,10 @@ fn direct_output_of(alloc: Global, text: &str) -> Option<Vec<u8>>
     let mut errors = Vec::new(alloc);
     match run_direct(
         alloc,
-        Limits::Standard,
+        Direct {
+            limits: Limits::Standard,
+            progress: false,
+        },
         &mut text.as_bytes(),
         &mut output,
         &mut errors,
