@@ -1,13 +1,15 @@
 """Tries wrong bodies many at a time. A function is proved by the contracts of what it calls, so that wrong bodies of different
-functions do not disturb each other. Each check of a crate has one in each of many functions, and says which have no proof."""
+functions do not disturb each other. Each check of a crate has one in each of many functions, proves those functions only, and
+says which have no proof."""
 import re
 from dataclasses import dataclass, field
 
 from edits import Edit, Unfit, edited, items_of
 from ledger import AT_ONCE
-from one_by_one import fitting, is_proved, settle_by_module
+from one_by_one import COUNTS, fitting, proved_as_it_is, settle_by_module
 from verdicts import say
 
+FUNCTION = re.compile(r"^fn (\S+): proved", re.MULTILINE)
 UNPROVED = re.compile(r"^(?:fn|impl|struct|enum) (\S+): (?:no proof|not proved)(.*)$", re.MULTILINE)
 WAITS = re.compile(r"it (?:calls|waits)")
 VERDICT = re.compile(r"^logic=(\S+)", re.MULTILINE)
@@ -24,11 +26,12 @@ class Found:
 
 @dataclass
 class Placed:
-    """An edit, and the functions in which it stands. One that stands elsewhere too is tried by itself."""
+    """An edit, the names of the functions in which it stands, and their whole paths. One that stands elsewhere too has no
+    paths, and is tried by itself."""
 
     edit: Edit
     functions: set
-    is_alone: bool
+    paths: set
 
     def is_among(self, names):
         """Whether these names have a function of it, or a closure there."""
@@ -55,23 +58,29 @@ class Group:
         self.functions |= placed.functions
         return True
 
+    @property
+    def paths(self):
+        return sorted(set().union(*(it.paths for it in self.members)))
 
-def placed_in(edit, folder):
+
+def paths_of(file, name, functions):
+    """Those of a crate's functions that a file of src/ may have under this name, by their paths."""
+    module = re.sub(r"(^|::)(lib|main|mod)$", "", file.removeprefix("src/").removesuffix(".rt").replace("/", "::"))
+    return {it for it in functions if it.endswith(f"::{name}") and it.split("::", 1)[1].startswith(module)}
+
+
+def placed_in(edit, folder, functions):
     items = list(items_of(edit, folder))
-    is_body = [it is not None and it.kind == "fn" and file.startswith("src/") for file, it in items]
-    return Placed(edit, {it.name for _, it in items if it and it.name}, not (is_body and all(is_body)))
+    found = [it and it.kind == "fn" and file.startswith("src/") and paths_of(file, it.name, functions) for file, it in items]
+    return Placed(edit, {it.name for _, it in items if it}, set().union(*found) if all(found) else set())
 
 
 def groups_of(placed, folder):
-    """Edits in groups. The first has as many as there can be, and those that are tried by themselves come last."""
-    left, alone = [it for it in placed if not it.is_alone], [it for it in placed if it.is_alone]
+    """Edits with paths in groups. The first has as many as there can be."""
+    left = list(placed)
     while left:
         group = Group()
         left = [it for it in left if not group.takes(it, folder)]
-        yield group
-    for it in alone:
-        group = Group()
-        group.takes(it, folder)
         yield group
 
 
@@ -82,13 +91,14 @@ class Trial:
         self.tree, self.verdicts, self.crate, self.jobs = tree, verdicts, crate, jobs
         self.folder, self.checks = tree.folder_of(crate), 0
 
-    def check(self, texts):
-        """What a check of the crate with these texts says; None where it says nothing of functions."""
+    def check(self, texts, paths):
+        """What a check of these functions says, or of the whole crate where there are none, with these texts; None where it
+        says nothing of functions."""
         self.checks += 1
-        words = ["rt", "check", "--jobs", str(self.jobs)]
+        words = ["rt", "check", "--jobs", str(self.jobs), *(word for it in paths for word in ("--only", it))]
         with self.tree.changed(self.crate, texts):
             status, said = self.tree.run(f"{self.crate}.{self.checks}", f"crates/{self.crate}", *words)
-        verdict = VERDICT.search(said)
+        verdict = (COUNTS if paths else VERDICT).search(said)
         if not verdict:
             say(f"{self.crate}: a check ended with status {status} and no verdict, and last said:")
             print(said[-1000:].strip("\n"), flush=True)
@@ -99,33 +109,42 @@ class Trial:
             (failed if is_own else waiting).append(name)
         return Found(failed, waiting, verdict[1] == "proved")
 
-    def is_refused(self, placed, found):
-        # (a wrong definition may break only worked rows)
-        return not found.is_proved if placed.is_alone else placed.is_among(found.failed)
-
     def try_all(self, placed):
         for it in groups_of(placed, self.folder):
             self.try_group(it)
 
     def try_group(self, group):
-        found, half = self.check(group.texts), len(group.members) // 2
-        if found is None and half:
+        found, half = self.check(group.texts, group.paths), len(group.members) // 2
+        if found:
+            self.judge(group.members, found)
+        elif half:
             # (one of them may be no code, or the check was killed)
             self.try_all(group.members[:half])
             self.try_all(group.members[half:])
-        elif found is None:
-            self.verdicts.leave(group.members[0].edit, "a check of it gave no verdict")
         else:
-            self.judge(group, found)
+            self.leave(group.members[0].edit)
 
-    def judge(self, group, found):
-        for it in group.members:
-            is_refused = self.is_refused(it, found)
-            if not is_refused and it.is_among(found.waiting) and len(group.members) > 1:
-                # (its callee was edited, too)
-                self.try_all([it])
-            else:
-                self.count(it.edit, is_refused)
+    def judge(self, members, found):
+        left = [it for it in members if not it.is_among(found.failed)]
+        # (a callee of these was edited, too)
+        waiting = [it for it in left if it.is_among(found.waiting) and len(left) < len(members)]
+        for it in members:
+            if it not in left:
+                self.count(it.edit, True)
+            elif it not in waiting:
+                self.try_whole(it)
+        self.try_all(waiting)
+
+    def try_whole(self, placed):
+        """Tries an edit by itself, by a check of the whole crate. (It may break only an impl, or worked rows.)"""
+        found = self.check(edited(placed.edit, self.folder), [])
+        if found:
+            self.count(placed.edit, not found.is_proved)
+        else:
+            self.leave(placed.edit)
+
+    def leave(self, edit):
+        self.verdicts.leave(edit, "a check of it gave no verdict")
 
     def count(self, edit, is_refused):
         if is_refused:
@@ -141,12 +160,18 @@ def try_at_once(tree, verdicts, crate, edits, jobs):
     edits = fitting(tree, verdicts, crate, edits)
     if not edits:
         return
-    if not is_proved(tree, crate, "--jobs", str(jobs)):
+    said = proved_as_it_is(tree, crate, "--jobs", str(jobs))
+    if not said:
         verdicts.leave_crate(crate, edits)
         return
     edits = settle_by_module(tree, verdicts, edits, is_narrow=False)
-    placed = [placed_in(it, tree.folder_of(crate)) for it in edits]
+    functions = FUNCTION.findall(said)
+    placed = [placed_in(it, tree.folder_of(crate), functions) for it in edits]
+    together, alone = [it for it in placed if it.paths], [it for it in placed if not it.paths]
     if placed:
-        groups = list(groups_of(placed, tree.folder_of(crate)))
-        say(f"{crate}: trying its edits ({len(edits)}) in {len(groups)} checks")
-        Trial(tree, verdicts, crate, jobs).try_all(placed)
+        checks = len(list(groups_of(together, tree.folder_of(crate)))) + len(alone)
+        say(f"{crate}: trying its edits ({len(edits)}) in {checks} checks")
+    trial = Trial(tree, verdicts, crate, jobs)
+    trial.try_all(together)
+    for it in alone:
+        trial.try_whole(it)

@@ -30,15 +30,6 @@ def take(rt, kept, crate):
     return True
 
 
-def take_all(top, names):
-    """Takes the libraries of these crates, lowest first, and returns those that are not kept."""
-    rt = code_of_rt()
-    rt.Crate.allowed = rt.handles_of(top)
-    crates = rt.crates_of(top)
-    kept = rt.Kept(crates)
-    return [it.name for it in crates if it.name in names and not it.is_program and not take(rt, kept, it)]
-
-
 def is_there(crate):
     """Whether the library of a crate stands in its out/, made of the crate's sources as they are."""
     stamp = f"{crate.folder}/out/rlib/stamp"
@@ -64,6 +55,12 @@ def take_missing(top, names):
         elif take(rt, kept, it):
             there.add(it.name)
     return there
+
+
+def take_all(top, names):
+    """Takes the libraries of these crates, and returns those that are neither there nor kept."""
+    there = take_missing(top, names)
+    return [it.name for it in crates_of(top) if it.name in names and it.name not in there and not it.is_program]
 
 
 def crates_of(top):

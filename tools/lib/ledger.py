@@ -83,6 +83,11 @@ def sum_of(edit, folder):
     return hashlib.sha256("\0".join(texts).encode()).hexdigest()[:16]
 
 
+def stands(note, edit, folder):
+    """Whether a note, if there is one, is of the texts as they are. `folder` is that of the edit's crate."""
+    return note is not None and note.sum == sum_of(edit, folder)
+
+
 def git(top, *words):
     ran = subprocess.run(["git", "-C", top, *words], capture_output=True, text=True, check=False)
     return ran.stdout.strip()

@@ -12,13 +12,13 @@ BY_NAMES = "only because a proof file names"
 MISSED = "NOT REFUSED: the crate is still proved"
 
 
-def is_proved(tree, crate, *flags):
-    """Whether a crate is proved as it is. Else its log's end is printed."""
+def proved_as_it_is(tree, crate, *flags):
+    """What a check of a crate as it is says; None where it is not proved. Then the log's end is printed."""
     say(f"{crate}: proving it as it is")
     status, said = tree.run(f"{crate}.check", f"crates/{crate}", "rt", "check", *flags)
     if status:
         print("\n".join(said.rstrip("\n").split("\n")[-20:]), flush=True)
-    return status == 0
+    return None if status else said
 
 
 def is_settled_by_module(tree, verdicts, edit):
@@ -91,7 +91,7 @@ def try_one_by_one(tree, verdicts, crate, edits, is_narrow):
     edits = fitting(tree, verdicts, crate, edits)
     if not edits:
         return
-    if not is_proved(tree, crate):
+    if not proved_as_it_is(tree, crate):
         verdicts.leave_crate(crate, edits)
         return
     edits = settle_by_module(tree, verdicts, edits, is_narrow)

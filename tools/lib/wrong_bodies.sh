@@ -15,16 +15,32 @@ if [ "$1" = must-fail ]; then
   done
   exit
 fi
-words=$* files='src/lib.rt src/part.rt specs/Sizes.antt'
-[[ $words != *--only* ]] || { words=${words#*--only } && files=src/${words%% *}.rt; }
+files='src/lib.rt src/part.rt specs/Sizes.antt'
+[[ $* != *--test* ]] || files=src/tests.rt
 # shellcheck disable=SC2086 # (they are words)
 ! grep -l 'no code' $files || exit 1
 # shellcheck disable=SC2086
-awk '
-  match($0, /fn [a-z]+/) { name = substr($0, RSTART + 3, RLENGTH - 3); many++ }
-  /wrong/ { print "fn one::" name ": no proof"; bad++ }
-  /waits/ { print "fn one::" name ": no proof: it calls `first`"; bad++ }
-  END { print "only=" many " proved=" many - bad; print "logic=" (bad ? "not-proved" : "proved"); exit bad > 0 }' $files
+awk -v only="$(grep -oP '(?<=--only )\S+' <<<"$*")" '
+  BEGIN { count = split(only, wanted) }
+  function is_asked(it) {
+    for (it in wanted) if (wanted[it] == path || "one::" wanted[it] == module) return 1
+    return !count
+  }
+  FNR == 1 {
+    module = path = FILENAME
+    gsub(/^.*\/|\..*$/, "", module)
+    module = module == "lib" ? "one" : "one::" module
+  }
+  match($0, /fn [a-z]+/) { path = module "::" substr($0, RSTART + 3, RLENGTH - 3); said[path] = "proved" }
+  /wrong/ { said[path] = "no proof" }
+  /waits/ && said["one::first"] == "no proof" { said[path] = "no proof: it calls `first`" }
+  is_asked() { asked[path] }
+  END {
+    for (path in asked) { print "fn " path ": " said[path]; many++; bad += said[path] ~ /no proof/ }
+    print "only=" many " proved=" many - bad
+    print "logic=" (bad ? "not-proved" : "proved")
+    exit bad > 0
+  }' $files
 JUDGE
   chmod +x "$room/judge/rt"
 }
@@ -81,18 +97,18 @@ $counted" '' bodies
 mutants: one/wrong_test.edit: refused by its module
 mutants: one/wrong_third.edit: refused by its module
 2 refused, 0 not refused" '' bodies --narrow --only '_t' one
-  expect_like 'a sample of wrong bodies' 0 'mutants: trying these, and again by: tools/mutants --sample 2 --by a
+  expect_like 'a sample of wrong bodies' 1 'mutants: trying these, and again by: tools/mutants --sample 2 --by a
   one/*mutants: copying the repository
 mutants: not kept, so proved again: one
 *one/wrong_third.edit: refused by its module*
-2 refused, 0 not refused' '' bodies --sample 2 --by a one
+1 refused, 1 not refused' '' bodies --sample 2 --by a one
   expect 'wrong bodies at once' 1 "$begun
 mutants: one/wrong_test.edit: refused by its module
 mutants: one: trying its edits (6) in 3 checks
 mutants: one/same_second.edit: NOT REFUSED
-mutants: one/waiting_fourth.edit: NOT REFUSED
 mutants: one/wrong_again.edit: refused
 mutants: one/wrong_third.edit: refused
+mutants: one/waiting_fourth.edit: NOT REFUSED
 mutants: one/wrong_first.edit: refused
 mutants: one/wrong_size.edit: refused
 $counted" '' bodies --at-once one
@@ -102,6 +118,8 @@ $counted" '' bodies --at-once one
 check_notes() {
   local ledger=$room/bodies/tools/lib/ledger.txt
   expect_like 'wrong bodies that are noted' 1 '*5 refused, 2 not refused' '' bodies --note --at-once one
+  expect 'wrong bodies that were all tried' 2 '' 'mutants: there is no edit to try that was not tried here' \
+    bodies --untried --at-once one
   expect_like 'a wrong body that is noted again' 0 '*1 refused, 0 not refused' '' bodies --note --narrow --only third one
   expect_like 'what is noted' 0 '# *
 one/same_second.edit ???????????????? none at-once let-through
@@ -115,6 +133,10 @@ one/wrong_third.edit ???????????????? none module refused' '' cat "$ledger"
   expect_like 'a ledger that can not be read' 2 '' 'mutants: tools/lib/ledger.txt: this is no note*: one/wrong_test*' \
     bodies --note one
   sed -i 's/by-name/module/; /wrong_test/d' "$ledger"
+  expect 'the wrong body that is left' 0 'mutants: copying the repository
+mutants: one: proving it as it is
+mutants: one/wrong_test.edit: refused by its module
+1 refused, 0 not refused' '' bodies --untried --at-once
 }
 
 # What a gate prints, up to a line of a check.
