@@ -13,6 +13,8 @@ FUNCTION = re.compile(r"^fn (\S+): proved", re.MULTILINE)
 UNPROVED = re.compile(r"^(?:fn|impl|struct|enum) (\S+): (?:no proof|not proved)(.*)$", re.MULTILINE)
 WAITS = re.compile(r"it (?:calls|waits)")
 VERDICT = re.compile(r"^logic=(\S+)", re.MULTILINE)
+# A check tries at most this many edits, so that less is lost where it is killed.
+MOST_TOGETHER = 50
 
 
 @dataclass
@@ -48,7 +50,7 @@ class Group:
 
     def takes(self, placed, folder):
         """Adds an edit. No two stand in functions of one name, so that a failure is that of one edit."""
-        if self.functions & placed.functions:
+        if len(self.members) == MOST_TOGETHER or self.functions & placed.functions:
             return False
         try:
             self.texts |= edited(placed.edit, folder, self.texts)
@@ -64,19 +66,27 @@ class Group:
 
 
 def paths_of(file, name, functions):
-    """Those of a crate's functions that a file of src/ may have under this name, by their paths."""
-    module = re.sub(r"(^|::)(lib|main|mod)$", "", file.removeprefix("src/").removesuffix(".rt").replace("/", "::"))
-    return {it for it in functions if it.endswith(f"::{name}") and it.split("::", 1)[1].startswith(module)}
+    """Those of a crate's functions that a file of src/ may have under this name, by their paths. They have the path of the
+    file's module, or of a module around it, where a type of that has them."""
+    named = {it.split("::", 1)[1]: it for it in functions if it.endswith(f"::{name}")}
+    parts = re.sub(r"/?(lib|main|mod)$", "", file.removeprefix("src/").removesuffix(".rt")).split("/")
+    for count in range(len(parts), -1, -1):
+        module = "::".join(parts[:count])
+        found = {path for inner, path in named.items() if f"{inner}::".startswith(f"{module}::" * (count > 0))}
+        if found:
+            return found
+    return set()
 
 
 def placed_in(edit, folder, functions):
-    items = list(items_of(edit, folder))
+    """Where an edit stands. A text before the first item of a file of src/ is a `use` line, which is in no function."""
+    items = [(file, it) for file, it in items_of(edit, folder) if it or not file.startswith("src/")]
     found = [it and it.kind == "fn" and file.startswith("src/") and paths_of(file, it.name, functions) for file, it in items]
     return Placed(edit, {it.name for _, it in items if it}, set().union(*found) if all(found) else set())
 
 
 def groups_of(placed, folder):
-    """Edits with paths in groups. The first has as many as there can be."""
+    """Edits with paths in groups."""
     left = list(placed)
     while left:
         group = Group()

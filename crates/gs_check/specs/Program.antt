@@ -13,13 +13,15 @@ use Rattle.gs_check.specs.declared.program.ExitStatus.{ExitStatus}
 use Rattle.gs_check.specs.declared.program.ExitStatus.TheVariants as ends
 use Rattle.gs_check.specs.FirstLine.{first_line}
 use Rattle.gs_check.specs.Summary.{summary}
+use Rattle.gs_check.specs.Words.{SaysWhy}
 
 -- ---- answers
 
--- the refusal's number and place on a line of their own, and then some words
+-- the refusal's number and place on a line of their own, and then its reason in words
 pub record IsRefusalText (fault : ScenarioFault) (answer : List ℕ) : Type 0 where
   pub words : List ℕ
   pub text : answer ≡ (first_line fault ++ codes "\n") ++ words
+  pub reason : SaysWhy fault words
 
 -- the answer when out of memory for any other
 abbrev pub no_memory_answer : List ℕ

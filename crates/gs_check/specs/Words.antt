@@ -1,10 +1,13 @@
 -- What the program says about a key that is not known.
-use Rattle.std.specs.Prelude.{◌≡◌, ℕ, ◌==◌, ◌++◌, Bool, nat_lt, List, codes, length, Option, Some, None, if◌then◌else◌}
+use Rattle.std.specs.Prelude.{◌≡◌, ⊤, ℕ, ◌==◌, ◌++◌, Bool, true, nat_lt, List, codes, length, Option, Some, None, if◌then◌else◌}
 use Rattle.std.specs.List.{after_first, position_or_len}
+use Rattle.gs_scenario.specs.declared.fault.ScenarioFault.{ScenarioFault}
+use Rattle.gs_scenario.specs.declared.fault.ScenarioFault.TheVariants.{Toml, UnknownKey, Missing, Range, UnknownName, Repeated, NoMemory, Params}
 use Rattle.gs_scenario.specs.declared.scenario.tables.TableKind.{TableKind}
 use Rattle.gs_scenario.specs.declared.scenario.tables.TableKind.TheVariants as kinds
 use Rattle.gs_scenario.specs.PlanOf.{known_keys}
 use Rattle.gs_check.specs.Near.{IsNearestOf}
+use Rattle.gs_check.specs.Shown.{is_plain_text}
 
 -- a place between backquotes, unchanged
 abbrev pub plain_place : List ℕ → List ℕ
@@ -61,3 +64,15 @@ pub record SaysUnknown (place : List ℕ) (kind : TableKind) (text : List ℕ) :
   pub near : Option (List ℕ)
   pub is_nearest : IsNearestOf (key_in kind place) (known_keys kind) near
   pub words : text ≡ unknown_words place kind near
+
+-- The words that follow a refusal's first line. Those of a key that is not known are fixed where its place is shown as it
+-- stands. The words of other refusals are not.
+abbrev pub SaysWhy : ScenarioFault → List ℕ → Type 0
+SaysWhy Toml words = ⊤
+SaysWhy (UnknownKey place kind) words = is_plain_text place ≡ true → SaysUnknown place kind words
+SaysWhy (Missing place) words = ⊤
+SaysWhy (Range place found wanted) words = ⊤
+SaysWhy (UnknownName place name kind) words = ⊤
+SaysWhy (Repeated place) words = ⊤
+SaysWhy NoMemory words = ⊤
+SaysWhy (Params fault) words = ⊤

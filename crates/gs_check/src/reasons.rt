@@ -1,4 +1,7 @@
 //! Why a scenario is refused, in words.
+ghost use Rattle.std.specs.Prelude.{IfOk, string_bytes};
+ghost use Rattle.gs_check.specs.Words.{SaysWhy};
+
 mod keys;
 mod names;
 mod params;
@@ -13,7 +16,9 @@ use gs_scenario::ScenarioFault;
 use std::alloc::{AllocError, Global};
 
 /// Returns the reason of a refusal, in one or two lines. It finds in the bytes what the refusal doesn't keep.
-pub fn reason(alloc: Global, bytes: &[u8], fault: &ScenarioFault) -> Result<String, AllocError> {
+pub fn reason(alloc: Global, bytes: &[u8], fault: &ScenarioFault) -> Result<String, AllocError>
+    ensures { IfOk result (λ text. SaysWhy fault.now (string_bytes text)) }
+{
     match fault {
         ScenarioFault::Toml => toml_reason(alloc, bytes),
         ScenarioFault::UnknownKey(place, kind) => unknown(alloc, place.as_str(), *kind),
