@@ -106,6 +106,7 @@ class Trial:
         says nothing of functions."""
         self.checks += 1
         words = ["rt", "check", "--jobs", str(self.jobs), *(word for it in paths for word in ("--only", it))]
+        self.tree.restore_work(self.crate)
         with self.tree.changed(self.crate, texts):
             status, said = self.tree.run(f"{self.crate}.{self.checks}", f"crates/{self.crate}", *words)
         verdict = (COUNTS if paths else VERDICT).search(said)
@@ -175,6 +176,7 @@ def try_at_once(tree, verdicts, crate, edits, jobs):
         verdicts.leave_crate(crate, edits)
         return
     edits = settle_by_module(tree, verdicts, edits, is_narrow=False)
+    tree.keep_work(crate)
     functions = FUNCTION.findall(said)
     placed = [placed_in(it, tree.folder_of(crate), functions) for it in edits]
     together, alone = [it for it in placed if it.paths], [it for it in placed if not it.paths]

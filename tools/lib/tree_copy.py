@@ -24,6 +24,21 @@ def locked(folder):
         os.close(held)
 
 
+def link_checked(source, target):
+    """Links a checked module, and copies another file. (rt does so, too: a check replaces a checked module, and changes none.)"""
+    if source.endswith(".oantt"):
+        os.link(source, target)
+    else:
+        shutil.copy2(source, target)
+
+
+def copy_work(source, target):
+    """Puts what checks have kept in place of what there is; nothing where they have kept nothing."""
+    if os.path.isdir(source):
+        shutil.rmtree(target, ignore_errors=True)
+        shutil.copytree(source, target, copy_function=link_checked)
+
+
 class TreeCopy:
     """The sources of each crate, and what rt keeps in out/ of those that are needed, in the folder `tree` of a room."""
 
@@ -74,6 +89,14 @@ class TreeCopy:
             for path, text in before.items():
                 with open(path, "w", encoding="utf-8") as stream:
                     stream.write(text)
+
+    def keep_work(self, crate):
+        """Sets aside what the checks of a crate have kept so far."""
+        copy_work(f"{self.folder_of(crate)}/out/incremental", f"{self.room}/{crate}.kept")
+
+    def restore_work(self, crate):
+        """Lets the next check of a crate begin with what was set aside, and not with what one of an edit has kept."""
+        copy_work(f"{self.room}/{crate}.kept", f"{self.folder_of(crate)}/out/incremental")
 
     def put_edits(self, crate, edits):
         """Puts edits where rt must-fail looks for them."""
