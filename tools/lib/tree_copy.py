@@ -33,7 +33,7 @@ def link_checked(source, target):
 
 
 def copy_work(source, target):
-    """Puts what checks have kept in place of what there is; nothing where they have kept nothing."""
+    """Replaces a folder of kept work by another. It does nothing if there is no other."""
     if os.path.isdir(source):
         shutil.rmtree(target, ignore_errors=True)
         shutil.copytree(source, target, copy_function=link_checked)
