@@ -99,7 +99,7 @@ class Trial:
 
     def __init__(self, tree, verdicts, crate, jobs):
         self.tree, self.verdicts, self.crate, self.jobs = tree, verdicts, crate, jobs
-        self.folder, self.checks = tree.folder_of(crate), 0
+        self.folder, self.checks, self.later = tree.folder_of(crate), 0, []
 
     def check(self, texts, paths):
         """What a check of these functions says, or of the whole crate where there are none, with these texts; None where it
@@ -121,6 +121,13 @@ class Trial:
         return Found(failed, waiting, verdict[1] == "proved")
 
     def try_all(self, placed):
+        """Tries edits in groups, and last those whose callee was edited, too."""
+        self.try_groups(placed)
+        while self.later:
+            placed, self.later = self.later, []
+            self.try_groups(placed)
+
+    def try_groups(self, placed):
         for it in groups_of(placed, self.folder):
             self.try_group(it)
 
@@ -130,21 +137,20 @@ class Trial:
             self.judge(group.members, found)
         elif half:
             # (one of them may be no code, or the check was killed)
-            self.try_all(group.members[:half])
-            self.try_all(group.members[half:])
+            self.try_groups(group.members[:half])
+            self.try_groups(group.members[half:])
         else:
             self.leave(group.members[0].edit)
 
     def judge(self, members, found):
         left = [it for it in members if not it.is_among(found.failed)]
-        # (a callee of these was edited, too)
-        waiting = [it for it in left if it.is_among(found.waiting) and len(left) < len(members)]
         for it in members:
             if it not in left:
                 self.count(it.edit, True)
-            elif it not in waiting:
+            elif it.is_among(found.waiting) and len(left) < len(members):
+                self.later.append(it)
+            else:
                 self.try_whole(it)
-        self.try_all(waiting)
 
     def try_whole(self, placed):
         """Tries an edit by itself, by a check of the whole crate. (It may break only an impl, or worked rows.)"""

@@ -108,8 +108,8 @@ mutants: one: trying its edits (6) in 3 checks
 mutants: one/same_second.edit: NOT REFUSED
 mutants: one/wrong_again.edit: refused
 mutants: one/wrong_third.edit: refused
-mutants: one/waiting_fourth.edit: NOT REFUSED
 mutants: one/wrong_first.edit: refused
+mutants: one/waiting_fourth.edit: NOT REFUSED
 mutants: one/wrong_size.edit: refused
 $counted" '' bodies --at-once one
 }
