@@ -92,7 +92,8 @@ where
 
 /// Reads a scenario from the input, runs it over links, and writes its report to the output after the run. Where there is no
 /// report, it writes a line with the reason, or a front of that line, to `errors`. The gate is called for each round that a
-/// peer begins. No clause is about the gate or about links, or states the reason for a status.
+/// peer begins. A refused scenario has its reason in the clauses. No clause is about the gate or about links, or says why
+/// a run ends with a fault or a stream fails.
 pub fn run<T, G, R, W, E>(
     rt: &T,
     gate: &G,
@@ -126,7 +127,7 @@ where
 
 /// Reads a scenario from the input, runs it without links, and writes its report to the output after the run. Where there is
 /// no report, it writes a line with the reason, or a front of that line, to `errors`. If progress is wanted, it first
-/// writes a line, or a front of it, for each round to `errors`.
+/// writes a line, or a front of it, for each of some first rounds to `errors`. After a whole run these are all rounds.
 pub fn run_direct<R, W, E>(
     alloc: Global,
     direct: Direct,

@@ -62,7 +62,7 @@ default_timing = record {
   gossip_retransmission = 3;
 }
 
--- the peer's own message goes to all neighbours on its topic
+-- the peer's own message goes to all neighbours on its topic that may get it
 abbrev pub default_flood_publish : Bool
 default_flood_publish = true
 

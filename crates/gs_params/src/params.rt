@@ -166,7 +166,7 @@ pub struct Params {
     pub thresholds: Thresholds,
     pub factors: Factors,
     pub timing: Timing,
-    /// Whether the peer's own message goes to all neighbours on its topic, and not only to its mesh.
+    /// Whether the peer's own message goes to all neighbours on its topic that may get it, and not only to its mesh.
     pub flood_publish: bool,
     /// The parameters of topics. The first ones of a topic count, and a topic without any has the defaults.
     pub topics: Seq<(Topic, TopicParams)>,

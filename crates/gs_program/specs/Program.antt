@@ -78,7 +78,8 @@ pub record RunRefused (limits : Limits) (needs_threads : Bool)
   pub tells : TellsFault plan fault errors errors'
   pub silent : Keeps output output'
 
--- a read of the input failed, or the input had not ended after `MOST_READS` reads
+-- The line `input failed` is on errors, or a front of it, and the output has nothing more. (No field says that a read
+-- failed, or that the input had not ended after `MOST_READS` reads.)
 pub record InputFailed (output output' errors errors' : Option (List ℕ)) : Type 0 where
   pub line : AppendsFront errors errors' (codes "input failed\n")
   pub silent : Keeps output output'
@@ -104,7 +105,8 @@ module _ (limits : Limits) (text_of : Plan → Report → List ℕ) where
     pub text : Appends output output' (text_of plan report)
     pub silent : Keeps errors errors'
 
-  -- a front of the text about a run of the scenario is on the output, and then the output failed
+  -- A front of the text about a run of the scenario is on the output, and one of the line `output failed` on errors.
+  -- (No field says that a write failed.)
   pub record OutputFailed (input output output' errors errors' : Option (List ℕ)) : Type 0 where
     pub plan : Plan
     pub scenario : IsScenario limits input plan

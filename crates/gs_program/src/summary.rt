@@ -63,7 +63,8 @@ pub struct SummaryProgram<S> {
 impl<S: Summarizer> SummaryProgram<S> {
     /// Reads a scenario from the input, runs it on this thread without links, and then writes a text about its report to the
     /// output. Where there is no text, a line on `errors`, or a front of it, says why. If progress is wanted, it
-    /// first writes a line, or a front of it, for each round to `errors`.
+    /// first writes a line, or a front of it, for each of some first rounds to `errors`. After a whole run these are
+    /// all rounds.
     pub fn run<R, W, E>(&self, input: &mut R, output: &mut W, errors: &mut E) -> ExitStatus
     where
         R: Read,

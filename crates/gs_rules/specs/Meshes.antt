@@ -62,7 +62,7 @@ abbrev pub fanout : Entries → Topic → List PeerNo
 fanout [] t = []
 fanout (e ∷ L) t = after_marks (fanout_after t) e.effects.marks (dropped_after t [] e.event (fanout L t))
 
--- when the peer last published on a topic without being subscribed, for as long as that keeps a fanout
+-- when the peer last published on a topic by its fanout, for as long as that keeps the fanout
 abbrev pub published_after : Topic → ℕ → Mark → Option ℕ → Option ℕ
 published_after t at (Published u) before = if same_topic u t then Some at else before
 published_after t at other before = before
@@ -72,7 +72,7 @@ last_published [] t = None
 last_published (e ∷ L) t =
     after_marks (published_after t e.at.0) e.effects.marks (dropped_after t None e.event (last_published L t))
 
--- the topics on which the peer ever published without being subscribed, each once, the first one first
+-- the topics on which the peer ever published by a fanout, each once, the first one first
 abbrev pub fanned_topics_after : Mark → List Topic → List Topic
 fanned_topics_after (Published t) before = if list_any (same_topic t) before then before else before ++ t ∷ []
 fanned_topics_after other before = before
