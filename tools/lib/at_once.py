@@ -13,7 +13,7 @@ FUNCTION = re.compile(r"^fn (\S+): proved", re.MULTILINE)
 UNPROVED = re.compile(r"^(?:fn|impl|struct|enum) (\S+): (?:no proof|not proved)(.*)$", re.MULTILINE)
 WAITS = re.compile(r"it (?:calls|waits)")
 VERDICT = re.compile(r"^logic=(\S+)", re.MULTILINE)
-# A check tries at most this many edits, so that less is lost where it is killed.
+# A check tries at most this many edits, so that less is lost if it is killed.
 MOST_TOGETHER = 50
 
 
@@ -28,8 +28,8 @@ class Found:
 
 @dataclass
 class Placed:
-    """An edit, the names of the functions in which it stands, and their whole paths. One that stands elsewhere too has no
-    paths, and is tried by itself."""
+    """An edit, the names of the functions in which it stands, and their paths in the crate. An edit that stands elsewhere,
+    too, has no paths, and is tried by itself."""
 
     edit: Edit
     functions: set
@@ -69,7 +69,7 @@ def paths_of(file, name, functions):
     """Those of a crate's functions that a file of src/ may have under this name, by their paths. They have the path of the
     file's module, or of a module around it, where a type of that has them."""
     named = {it.split("::", 1)[1]: it for it in functions if it.endswith(f"::{name}")}
-    parts = re.sub(r"/?(lib|main|mod)$", "", file.removeprefix("src/").removesuffix(".rt")).split("/")
+    parts = re.sub(r"(^|/)(lib|main|mod)$", "", file.removeprefix("src/").removesuffix(".rt")).split("/")
     for count in range(len(parts), -1, -1):
         module = "::".join(parts[:count])
         found = {path for inner, path in named.items() if f"{inner}::".startswith(f"{module}::" * (count > 0))}
@@ -79,8 +79,8 @@ def paths_of(file, name, functions):
 
 
 def placed_in(edit, folder, functions):
-    """Where an edit stands. A text before the first item of a file of src/ is a `use` line, which is in no function."""
-    items = [(file, it) for file, it in items_of(edit, folder) if it or not file.startswith("src/")]
+    """Where an edit stands, apart from its `use` lines."""
+    items = list(items_of((it for it in edit.changes() if not it.is_import), folder))
     found = [it and it.kind == "fn" and file.startswith("src/") and paths_of(file, it.name, functions) for file, it in items]
     return Placed(edit, {it.name for _, it in items if it}, set().union(*found) if all(found) else set())
 

@@ -58,4 +58,4 @@ class Changes:
         folder = f"{self.top}/crates/{edit.crate}"
         if edit.path in self.lines or why_unfit(edit, folder):
             return True
-        return any(item in self.items_in(edit.crate, file) for file, item in items_of(edit, folder))
+        return any(item in self.items_in(edit.crate, file) for file, item in items_of(edit.changes(), folder))

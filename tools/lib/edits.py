@@ -22,6 +22,11 @@ class Change:
     old: str
     new: str
 
+    @property
+    def is_import(self):
+        """Whether it changes a `use` line of code, which is in no function."""
+        return self.file.startswith("src/") and self.old.startswith("use ")
+
 
 @dataclass(frozen=True)
 class Item:
@@ -131,10 +136,10 @@ def item_at(file, lines, last):
     return None
 
 
-def items_of(edit, folder):
-    """The file and the item in which each old text stands, where it stands in one. A text that an earlier pair of the edit
-    made is left out."""
-    for it in edit.changes():
+def items_of(changes, folder):
+    """The file and the item in which each old text stands, where it stands in one. A text that an earlier change made is left
+    out."""
+    for it in changes:
         text = text_in(folder, it.file)
         if text.count(it.old) == 1:
             last = text[: text.index(it.old) + len(it.old)].count("\n")

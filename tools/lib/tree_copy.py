@@ -25,11 +25,15 @@ def locked(folder):
 
 
 def link_checked(source, target):
-    """Links a checked module, and copies another file. (rt does so, too: a check replaces a checked module, and changes none.)"""
+    """Links a checked module, and copies another file. (rt does so, too: a check replaces a checked module, and changes none.)
+    Where no link can be made, it copies a module, too."""
     if source.endswith(".oantt"):
-        os.link(source, target)
-    else:
-        shutil.copy2(source, target)
+        try:
+            os.link(source, target)
+            return
+        except OSError:
+            pass
+    shutil.copy2(source, target)
 
 
 def copy_work(source, target):

@@ -102,6 +102,8 @@ mutants: one/wrong_third.edit: refused by its module
 mutants: not kept, so proved again: one
 *one/wrong_third.edit: refused by its module*
 1 refused, 1 not refused' '' bodies --sample 2 --by a one
+  expect_like 'a sample that is refused' 0 '*one/wrong_third.edit: refused by its module
+1 refused, 0 not refused' '' bodies --sample 1 --by a one
   expect 'wrong bodies at once' 1 "$begun
 mutants: one/wrong_test.edit: refused by its module
 mutants: one: trying its edits (6) in 3 checks

@@ -59,12 +59,14 @@ pub record Answered (limits : Limits) (verdict : Verdict) (input output output' 
   pub text : Appends output output' answer
   pub silent : Keeps errors errors'
 
--- a read of the input failed, or the input had not ended after `MOST_READS` reads
+-- This end stands for a read that failed, or an input that had not ended after `MOST_READS` reads. No field says which
+-- came: `input failed` is on errors, or a front of it, and nothing more on the output.
 pub record InputFailed (output output' errors errors' : Option (List ℕ)) : Type 0 where
   pub line : AppendsFront errors errors' (codes "input failed\n")
   pub silent : Keeps output output'
 
--- a front of the answer to the input is on the output, and then the output failed
+-- A front of the answer to the input is on the output, even the whole of it. `output failed` is on errors, or a front of it.
+-- No field says that a write failed.
 pub record OutputFailed (limits : Limits) (input output output' errors errors' : Option (List ℕ)) : Type 0 where
   pub verdict : Verdict
   pub answer : List ℕ

@@ -1,4 +1,4 @@
--- What the program says about a key that is not known.
+-- What the program says about a refusal, as far as that is fixed: about a key that is not known.
 use Rattle.std.specs.Prelude.{◌≡◌, ⊤, ℕ, ◌==◌, ◌++◌, Bool, true, nat_lt, List, codes, length, Option, Some, None, if◌then◌else◌}
 use Rattle.std.specs.List.{after_first, position_or_len}
 use Rattle.gs_scenario.specs.declared.fault.ScenarioFault.{ScenarioFault}
