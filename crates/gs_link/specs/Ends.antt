@@ -63,10 +63,6 @@ close_found_closed other = false
 
 -- ---- take
 
--- at one moment all that was accepted had been taken
-abbrev pub FoundEmpty : TakingEnd → Type 0
-FoundEmpty end = (accepted : List Slot) × RunWithin end.capacity accepted end.taken []
-
 -- P holds for the item in an answer of `take`, if there is one
 abbrev pub IfGot : Taken → (Item → Type 0) → Type 0
 IfGot (took.Got item) P = P item

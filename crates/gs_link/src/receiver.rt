@@ -1,7 +1,7 @@
 ghost use Rattle.std.specs.Prelude.{◌≡◌, ◌++◌, ◌∷◌, [], IsTrue};
 ghost use Rattle.gs_link.specs.Items.{IsSendable, slot_of};
 ghost use Rattle.gs_link.specs.Runs.{closes};
-ghost use Rattle.gs_link.specs.Ends.{FoundEmpty, IfGot, take_found_empty, take_found_closed, with_close};
+ghost use Rattle.gs_link.specs.Ends.{IfGot, take_found_empty, take_found_closed, with_close};
 
 use crate::item::{Item, Slot};
 use crate::rule::{End, Pop, Queue};
@@ -53,7 +53,6 @@ impl LinkRx {
         ensures got { IfGot result (λ item. self.new.taken ≡ self.old.taken ++ slot_of item ∷ []) }
         ensures size { IfGot result IsSendable }
         ensures empty { IsTrue (take_found_empty result) → self.new.taken ≡ self.old.taken }
-        ensures nothing { IsTrue (take_found_empty result) → FoundEmpty self.old }
         ensures close { IsTrue (take_found_closed result) → self.new.taken ≡ with_close self.old.taken }
         ensures closed { take_found_closed result ≡ closes self.new.taken }
     {
