@@ -5,25 +5,15 @@ import re
 from dataclasses import dataclass, field
 
 from edits import Edit, Unfit, edited, items_of
+from failures import Failures
 from ledger import AT_ONCE
 from one_by_one import COUNTS, fitting, proved_as_it_is, settle_by_module
 from verdicts import say
 
 FUNCTION = re.compile(r"^fn (\S+): proved", re.MULTILINE)
-UNPROVED = re.compile(r"^(?:fn|impl|struct|enum) (\S+): (?:no proof|not proved)(.*)$", re.MULTILINE)
-WAITS = re.compile(r"it (?:calls|waits)")
 VERDICT = re.compile(r"^logic=(\S+)", re.MULTILINE)
 # A check tries at most this many edits, so that less is lost if it is killed.
 MOST_TOGETHER = 50
-
-
-@dataclass
-class Found:
-    """What a check of a crate says: which functions have no proof of their own, and which wait only for that of a callee."""
-
-    failed: list
-    waiting: list
-    is_proved: bool
 
 
 @dataclass
@@ -102,8 +92,8 @@ class Trial:
         self.folder, self.checks, self.later = tree.folder_of(crate), 0, []
 
     def check(self, texts, paths):
-        """What a check of these functions says, or of the whole crate where there are none, with these texts; None where it
-        says nothing of functions."""
+        """What a check of these functions fails at, or of the whole crate where there are none, with these texts. It also says
+        whether the crate is proved. It is None where the check says nothing of functions."""
         self.checks += 1
         words = ["rt", "check", "--jobs", str(self.jobs), *(word for it in paths for word in ("--only", it))]
         self.tree.restore_work(self.crate)
@@ -114,11 +104,7 @@ class Trial:
             say(f"{self.crate}: a check ended with status {status} and no verdict, and last said:")
             print(said[-1000:].strip("\n"), flush=True)
             return None
-        failed, waiting = [], []
-        for name, why in UNPROVED.findall(said):
-            is_own = "expected answers" in why or not WAITS.search(why)
-            (failed if is_own else waiting).append(name)
-        return Found(failed, waiting, verdict[1] == "proved")
+        return Failures(said), verdict[1] == "proved"
 
     def try_all(self, placed):
         """Tries edits in groups, and last those whose callee was edited, too."""
@@ -134,7 +120,7 @@ class Trial:
     def try_group(self, group):
         found, half = self.check(group.texts, group.paths), len(group.members) // 2
         if found:
-            self.judge(group.members, found)
+            self.judge(group.members, found[0])
         elif half:
             # (one of them may be no code, or the check was killed)
             self.try_groups(group.members[:half])
@@ -146,7 +132,7 @@ class Trial:
         left = [it for it in members if not it.is_among(found.failed)]
         for it in members:
             if it not in left:
-                self.count(it.edit, True)
+                self.refuse(it.edit, found.are_by_names([name for name in found.failed if it.is_among([name])]))
             elif it.is_among(found.waiting) and len(left) < len(members):
                 self.later.append(it)
             else:
@@ -155,21 +141,22 @@ class Trial:
     def try_whole(self, placed):
         """Tries an edit by itself, by a check of the whole crate. (It may break only an impl, or worked rows.)"""
         found = self.check(edited(placed.edit, self.folder), [])
-        if found:
-            self.count(placed.edit, not found.is_proved)
-        else:
+        if not found:
             self.leave(placed.edit)
+            return
+        failures, is_proved = found
+        if is_proved:
+            say(f"{placed.edit.label}: NOT REFUSED")
+            self.verdicts.let_through(placed.edit, AT_ONCE)
+        else:
+            self.refuse(placed.edit, failures.are_by_names(failures.failed))
 
     def leave(self, edit):
         self.verdicts.leave(edit, "a check of it gave no verdict")
 
-    def count(self, edit, is_refused):
-        if is_refused:
-            say(f"{edit.label}: refused")
-            self.verdicts.refuse(edit, AT_ONCE)
-        else:
-            say(f"{edit.label}: NOT REFUSED")
-            self.verdicts.let_through(edit, AT_ONCE)
+    def refuse(self, edit, is_by_names):
+        say(f"{edit.label}: refused" + " only by names" * is_by_names)
+        self.verdicts.refuse(edit, AT_ONCE, is_by_names)
 
 
 def try_at_once(tree, verdicts, crate, edits, jobs):

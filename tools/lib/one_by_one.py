@@ -2,11 +2,11 @@
 import re
 
 from edits import Unfit, edited
+from failures import Failures
 from ledger import BY_CRATE, BY_MODULE
 from verdicts import say
 
 COUNTS = re.compile(r"^only=(\d+) proved=(\d+)$", re.MULTILINE)
-NAMES_GONE = re.compile(r"has no field|has no function|that can be named from here")
 REFUSED = "refused, as it must be"
 BY_NAMES = "only because a proof file names"
 MISSED = "NOT REFUSED: the crate is still proved"
@@ -30,7 +30,8 @@ def is_settled_by_module(tree, verdicts, edit):
     wanted, proved = map(int, (COUNTS.findall(said) or [(0, 0)])[-1])
     if proved < wanted:
         say(f"{edit.label}: refused by its module")
-        verdicts.refuse(edit, BY_MODULE, bool(NAMES_GONE.search(said)))
+        failures = Failures(said)
+        verdicts.refuse(edit, BY_MODULE, failures.are_by_names(failures.failed))
     elif edit.is_of_tests and wanted:
         verdicts.let_through(edit, BY_MODULE)
     elif edit.is_of_tests:

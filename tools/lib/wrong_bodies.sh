@@ -2,7 +2,8 @@
 # Tries wrong bodies of a crate by a stand-in for rt, and notes them for the page that tools/status makes. tools/check_scripts
 # reads this file. It sets `top` to the repository's folder and `room` to one for files, and has `expect` and `expect_like`.
 
-# A stand-in for rt: to it a body is wrong that has the word `wrong`. It says so as rt does.
+# A stand-in for rt: to it a body is wrong that has the word `wrong`, and one with `gone` took away what a proof names. It says
+# so as rt does.
 make_judge() {
   mkdir -p "$room/judge"
   cat >"$room/judge/rt" <<'JUDGE'
@@ -33,10 +34,12 @@ awk -v only="$(grep -oP '(?<=--only )\S+' <<<"$*")" '
   }
   match($0, /fn [a-z]+/) { path = module "::" substr($0, RSTART + 3, RLENGTH - 3); said[path] = "proved" }
   /wrong/ { said[path] = "no proof" }
+  /gone/ { said[path] = "not proved"; split(path, part, "::"); gone["proofs/" part[2] "/" part[3]] }
   /waits/ && said["one::first"] == "no proof" { said[path] = "no proof: it calls `first`" }
   is_asked() { asked[path] }
   END {
-    for (path in asked) { print "fn " path ": " said[path]; many++; bad += said[path] ~ /no proof/ }
+    for (it in gone) print "./" it "/Answers.antt:1:1: error: `c` has no field `x`"
+    for (path in asked) { print "fn " path ": " said[path]; many++; bad += said[path] ~ /^no/ }
     print "only=" many " proved=" many - bad
     print "logic=" (bad ? "not-proved" : "proved")
     exit bad > 0
@@ -114,6 +117,18 @@ mutants: one/wrong_first.edit: refused
 mutants: one/waiting_fourth.edit: NOT REFUSED
 mutants: one/wrong_size.edit: refused
 $counted" '' bodies --at-once one
+}
+
+# A wrong body that is refused only because a proof names what it took away.
+check_names() {
+  local told='mutants: refused only because a proof file names what the edit took away (change a value, keep the names):
+  one/gone_fourth.edit
+1 refused, 0 not refused'
+  put_body gone_fourth src/part.rt '{ 4 }' '{ gone }'
+  expect_like 'a wrong body without names, at once' 0 "*mutants: one/gone_fourth.edit: refused only by names
+$told" '' bodies --at-once --only gone one
+  expect_like 'a wrong body without names, by its module' 0 "*$told" '' bodies --narrow --only gone one
+  rm "$room/bodies/crates/one/mutants/gone_fourth.edit"
 }
 
 # What is noted of those that are tried. A second try takes the place of the first.
@@ -246,6 +261,7 @@ check_wrong_bodies() {
   make_judge
   make_bodies
   check_ways
+  check_names
   check_notes
   check_status
   check_fit

@@ -1,5 +1,6 @@
-ghost use Rattle.std.specs.Prelude.{◌≡◌, ◌≤◌, Err, IfErr, IfOk, List, Ok, Some, ℕ, length};
+ghost use Rattle.std.specs.Prelude.{◌≡◌, ◌≢◌, ◌≤◌, Err, IfErr, IfOk, List, Ok, Some, ℕ, length};
 ghost use Rattle.gs_scenario.specs.declared.fault.ScenarioFault.TheVariants.{NoMemory};
+ghost use Rattle.gs_scenario.specs.Refusal.{number_of};
 ghost use Rattle.gs_check.specs.Program.{Answers, IsRefusalText, no_memory_answer};
 ghost use Rattle.gs_check.specs.Readings.{AnswersText, AnswersUnread, RefusesAs};
 ghost use Rattle.gs_plan.specs.Limits.{longest_input};
@@ -90,10 +91,20 @@ fn refusal_of(alloc: Global, bytes: &[u8], fault: &ScenarioFault) -> Result<Answ
     ensures refuses { RefusesAs fault.now result }
     ensures memory { fault.now ≡ NoMemory → result ≡ Err NoAnswer.NoMemory }
 {
+    refused(fault, refusal_text(alloc, bytes, fault))
+}
+
+/// Returns the answer to a refused scenario, by the text that was made of its refusal. There is no answer only when out of
+/// memory for the plan or for the text.
+fn refused(fault: &ScenarioFault, made: Result<Vec<u8>, AllocError>) -> Result<Answer, NoAnswer>
+    ensures text { number_of fault.now ≢ 32 → IfOk made (λ text. result ≡ Ok (record { verdict = Verdict.Refused; text = text })) }
+    ensures none { IfErr made (λ _. result ≡ Err NoAnswer.NoMemory) }
+    ensures memory { number_of fault.now ≡ 32 → result ≡ Err NoAnswer.NoMemory }
+{
     if fault.number() == 32 {
         return Err(NoAnswer::NoMemory);
     }
-    answered(Verdict::Refused, refusal_text(alloc, bytes, fault))
+    answered(Verdict::Refused, made)
 }
 
 /// Returns the answer with a verdict and its text, unless it was out of memory for the text.

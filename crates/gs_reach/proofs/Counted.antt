@@ -1,11 +1,12 @@
 -- What is counted of subscribers, and percentiles.
-use Rattle.std.proofs.Common.{◌≡◌, ◌≤◌, ◌<◌, ◌-◌, ◌++◌, ◌∙◌, ℕ, zero, suc, Bool, true, false, cond, leb, List, [], ◌∷◌, length, Option, Some, None, refl, ap, arith}
-use Rattle.std.specs.Prelude.{is_some, option_to_list, slice_get}
+use Rattle.std.proofs.Common.{◌≡◌, ◌≤◌, ◌<◌, ◌*◌, ◌-◌, ◌++◌, ◌∙◌, ◌⊎◌, ℕ, zero, suc, Bool, true, false, cond, leb, List, [], ◌∷◌, length, Option, Some, None, refl, ap, inl, inr, arith}
+use Rattle.std.specs.Prelude.{is_some, max, option_to_list, slice_get}
 use Rattle.std.specs.List.{filter}
+use Rattle.std.proofs.Math.Nat.{mul-le-mul_left}
 use Rattle.std.proofs.lemmas.Bool.{cond_both, cond-true, cond-false, le-leb, lt-leb, leb-true, false≢true}
 use Rattle.gs_reach.specs.declared.pairs.Pair.{Pair}
 use Rattle.gs_reach.specs.Order.{ascending, placed}
-use Rattle.gs_reach.specs.Reached.{is_at_most, is_reached, is_reached_within, reached, reached_within, rounds_of, fewest}
+use Rattle.gs_reach.specs.Reached.{is_at_most, is_reached, is_reached_within, percentile, rank, reached, reached_within, rounds_of, fewest}
 use Rattle.gs_reach.proofs.Ordered.{Ascends, Ascends-ascending, From}
 
 -- a test that passes wherever another does
@@ -156,3 +157,39 @@ pub percentile_none : (rank : ℕ) (pairs : List Pair) → 1 ≤ rank → fewest
 percentile_none rank pairs some e =
     let left = none_left (rank - 1) (in_order (rounds_of pairs)) e in
     omega (arith, left, length_in_order (rounds_of pairs), reached_is pairs)
+
+-- ---- percentiles in order
+
+lt_or_le : (a b : ℕ) → (a < b) ⊎ (b ≤ a)
+lt_or_le a zero = inr (omega arith)
+lt_or_le zero (suc b) = inl (omega arith)
+lt_or_le (suc a) (suc b) = elim (lt_or_le a b) [
+  | inl lower ↦ inl (omega (arith, lower))
+  | inr past ↦ inr (omega (arith, past))
+]
+
+pub ranks_ascend : (lower higher m n : ℕ) (pairs : List Pair) → 1 ≤ lower → lower ≤ higher → fewest lower pairs ≡ Some m → fewest higher pairs ≡ Some n → m ≤ n
+ranks_ascend lower higher m n pairs some le e e' = elim (lt_or_le n m) [
+  | inl fewer ↦ absurd (too_many fewer)
+  | inr above ↦ above
+]
+  where
+    too_many : n < m → ⊥
+    too_many fewer =
+        let enough = percentile_within higher n pairs (omega arith) e' in
+        let too_few = percentile_not_before lower m pairs some (omega (arith, fewer)) e in
+        let more = reached_more pairs n (m - 1) (omega (arith, fewer)) in
+        omega (arith, enough, too_few, more)
+
+ranks_follow_percentages : (lower higher count : ℕ) → lower ≤ higher → rank lower count ≤ rank higher count
+ranks_follow_percentages lower higher count le =
+    let more : count * lower ≤ count * higher = mul-le-mul_left count le in
+    omega (arith, more)
+
+pub percentages_ascend : (lower higher m n : ℕ) (pairs : List Pair) → lower ≤ higher → percentile lower pairs ≡ Some m → percentile higher pairs ≡ Some n → m ≤ n
+percentages_ascend lower higher m n pairs le e e' =
+    ranks_ascend (rank lower (length pairs)) (rank higher (length pairs)) m n pairs (omega arith) (ranks_follow_percentages lower higher (length pairs) le) e e'
+
+pub first_is_least : (percent m n : ℕ) (pairs : List Pair) → fewest 1 pairs ≡ Some m → percentile percent pairs ≡ Some n → m ≤ n
+first_is_least percent m n pairs e e' =
+    ranks_ascend 1 (rank percent (length pairs)) m n pairs (omega arith) (omega arith) e e'

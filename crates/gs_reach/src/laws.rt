@@ -6,7 +6,7 @@ ghost use Rattle.gs_plan.specs.declared.plan.Plan.{Plan as PlanValue};
 ghost use Rattle.gs_report.specs.declared.report.Report.{Report as ReportValue};
 ghost use Rattle.gs_reach.specs.Chosen.{is_by};
 ghost use Rattle.gs_reach.specs.Messages.{messages};
-ghost use Rattle.gs_reach.specs.Reached.{fewest, missed, reached, reached_within};
+ghost use Rattle.gs_reach.specs.Reached.{fewest, missed, percentile, reached, reached_within};
 ghost use Rattle.gs_reach.specs.declared.chosen.Chosen.{Chosen as ChosenValue};
 ghost use Rattle.gs_reach.specs.declared.messages.MessageReach.{MessageReach as MessageReachValue};
 ghost use Rattle.gs_reach.specs.declared.pairs.Pair.{Pair as PairValue};
@@ -31,6 +31,17 @@ pub fn a_percentile_has_its_rank()
         → 1 ≤ rank → 1 ≤ n → fewest rank pairs ≡ Some n → reached_within (n - 1) pairs < rank }
     ensures none { (rank : ℕ) (pairs : List PairValue)
         → 1 ≤ rank → fewest rank pairs ≡ None → reached pairs < rank }
+{}
+
+/// A higher rank takes no fewer rounds, and a higher percentage takes none fewer, either. So the rounds to the first subscriber,
+/// to half of them and to the last ascend.
+pub fn more_subscribers_take_no_fewer_rounds()
+    ensures ranks { (lower higher m n : ℕ) (pairs : List PairValue)
+        → 1 ≤ lower → lower ≤ higher → fewest lower pairs ≡ Some m → fewest higher pairs ≡ Some n → m ≤ n }
+    ensures percentages { (lower higher m n : ℕ) (pairs : List PairValue)
+        → lower ≤ higher → percentile lower pairs ≡ Some m → percentile higher pairs ≡ Some n → m ≤ n }
+    ensures first { (percent m n : ℕ) (pairs : List PairValue)
+        → fewest 1 pairs ≡ Some m → percentile percent pairs ≡ Some n → m ≤ n }
 {}
 
 /// The first publisher of a message is not one of its subscribers.

@@ -1,5 +1,7 @@
-ghost use Rattle.std.specs.Prelude.{◌≡◌, IfOk};
+ghost use Rattle.std.specs.Prelude.{◌≡◌, ◌⊎◌, IfOk};
+ghost use Rattle.toml.specs.Errors.{IsMemory};
 ghost use Rattle.toml.specs.View.{table_view};
+ghost use Rattle.gs_scenario.specs.declared.fault.ScenarioFault.TheVariants.{NoMemory, Toml};
 ghost use Rattle.gs_scenario.specs.Refusal.{GivesSame};
 ghost use Rattle.gs_scenario.specs.PlanOf.{plan_of, plan_in};
 ghost use Rattle.gs_plan.specs.Plans.{IsInRange, IsWithin};
@@ -37,6 +39,7 @@ use gs_plan::{Limits, Plan};
 use std::alloc::Global;
 pub use tables::TableKind;
 use toml::Table;
+use toml::de::Error;
 
 /// Returns the plan that a scenario describes within these limits.
 ///
@@ -53,14 +56,18 @@ pub fn read_plan(alloc: Global, limits: Limits, text: &str) -> Result<Plan, Scen
 {
     match toml::table_from_str(alloc, text) {
         Ok(table) => plan_in(alloc, limits, &table),
-        Err(fault) => {
-            if fault.is_memory() {
-                Err(ScenarioFault::NoMemory)
-            } else {
-                Err(ScenarioFault::Toml)
-            }
-        }
+        Err(fault) => Err(no_document(&fault)),
     }
+}
+
+/// Says why a text was not read: it is no TOML, unless memory ran out.
+fn no_document(fault: &Error) -> ScenarioFault
+    ensures { (IsMemory fault.now × (result ≡ NoMemory)) ⊎ (¬ IsMemory fault.now × (result ≡ Toml)) }
+{
+    if fault.is_memory() {
+        return ScenarioFault::NoMemory;
+    }
+    ScenarioFault::Toml
 }
 
 #[tactic(auto, unfolding(crate::specs::PlanOf::plan_in))]

@@ -1,7 +1,7 @@
 //! The scenario in an input: the plan that its bytes describe, or why they are refused.
-ghost use Rattle.std.specs.Prelude.{◌≡◌, ◌≤◌, ◌⊎◌, IfErr, IfOk, Some, codes, length};
+ghost use Rattle.std.specs.Prelude.{◌≡◌, ◌≤◌, ◌⊎◌, Err, IfErr, IfOk, IsUtf8, Some, codes, length};
 ghost use Rattle.gs_plan.specs.Plans.{IsInRange};
-ghost use Rattle.gs_scenario.specs.declared.fault.ScenarioFault.TheVariants.{NoMemory};
+ghost use Rattle.gs_scenario.specs.declared.fault.ScenarioFault.TheVariants.{NoMemory, Toml};
 ghost use Rattle.gs_streams.specs.Inputs.{IsRefusal, IsScenario, input_too_long};
 ghost use Rattle.gs_plan.specs.Limits.{longest_input};
 
@@ -19,6 +19,7 @@ pub fn plan_from(alloc: Global, limits: Limits, bytes: &[u8]) -> Result<Plan, Sc
     ensures found { IfOk result (λ plan. IsScenario limits (Some bytes.now) plan) }
     ensures in_range { IfOk result (λ plan. IsInRange plan) }
     ensures refused { IfErr result (IsRefusal limits bytes.now) }
+    ensures no_text { ¬ IsUtf8 bytes.now → result ≡ Err Toml }
 {
     match str::from_utf8(bytes) {
         Ok(text) => read_plan(alloc, limits, text),

@@ -1,9 +1,10 @@
 //! A value at its place, and how it is read as a value of some kind.
-ghost use Rattle.std.specs.Prelude.{◌≡◌, ◌≤◌, IfOk, length, option_map, option_and_then};
+ghost use Rattle.std.specs.Prelude.{◌≡◌, ◌≢◌, ◌≤◌, ◌⊎◌, Err, IfErr, IfOk, None, Ok, Some, length, option_map, option_and_then};
+ghost use Rattle.hex.specs.declared.error.FromHexError.TheVariants.{OutOfMemory};
 ghost use Rattle.std.specs.List.{list_all};
 ghost use Rattle.toml.specs.Data.{as_integer, as_str, as_array};
 ghost use Rattle.toml.specs.View.{view, items_view, table_view};
-ghost use Rattle.gs_scenario.specs.declared.fault.ScenarioFault.TheVariants.{UnknownName, Repeated};
+ghost use Rattle.gs_scenario.specs.declared.fault.ScenarioFault.TheVariants.{NoMemory, UnknownName, Repeated};
 ghost use Rattle.gs_scenario.specs.Refusal.{Gives, GivesSame};
 ghost use Rattle.gs_scenario.specs.Kinds as kinds;
 ghost use Rattle.gs_scenario.specs.Views.{element_text, place_text, read_as, section_of};
@@ -178,10 +179,8 @@ impl<'a> Field<'a> {
         ensures { GivesSame result (read_as kinds.hex_text self.now) }
     {
         if let Some(text) = self.value.as_str() {
-            match hex::decode(self.alloc, text) {
-                Ok(bytes) => return Ok(Bytes::from_vec(bytes)?),
-                Err(FromHexError::OutOfMemory) => return Err(ScenarioFault::NoMemory),
-                Err(_) => {}
+            if let Some(bytes) = decoded(hex::decode(self.alloc, text))? {
+                return Ok(Bytes::from_vec(bytes)?);
             }
         }
         Err(self.out_of_range(Wanted::Hex)?)
@@ -246,6 +245,24 @@ pub fn table_of<'a>(
     .table()?;
     let path = Path::Within(element);
     Ok(Section { alloc, path, table })
+}
+
+/// Returns the bytes that were decoded, or none if the text has no hex digits in pairs.
+///
+/// # Errors
+/// `NoMemory` if memory ran out.
+fn decoded(made: Result<Vec<u8>, FromHexError>) -> Result<Option<Vec<u8>>, ScenarioFault>
+    ensures bytes { IfOk made (λ bytes. result ≡ Ok (Some bytes)) }
+    ensures none { IfErr made (λ fault. ((fault ≡ OutOfMemory) × (result ≡ Err NoMemory))
+        ⊎ ((fault ≢ OutOfMemory) × (result ≡ Ok None))) }
+{
+    match made {
+        Ok(bytes) => Ok(Some(bytes)),
+        Err(FromHexError::InvalidHexCharacter { .. })
+        | Err(FromHexError::OddLength)
+        | Err(FromHexError::InvalidStringLength) => Ok(None),
+        Err(FromHexError::OutOfMemory) => Err(ScenarioFault::NoMemory),
+    }
 }
 
 fn is_name(text: &str) -> bool
