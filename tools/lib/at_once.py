@@ -5,13 +5,12 @@ import re
 from dataclasses import dataclass, field
 
 from edits import Edit, Unfit, edited, items_of
-from failures import Failures
+from failures import LOGIC, Failures
 from ledger import AT_ONCE
 from one_by_one import COUNTS, fitting, proved_as_it_is, settle_by_module
 from verdicts import say
 
 FUNCTION = re.compile(r"^fn (\S+): proved", re.MULTILINE)
-VERDICT = re.compile(r"^logic=(\S+)", re.MULTILINE)
 # A check tries at most this many edits, so that less is lost if it is killed.
 MOST_TOGETHER = 50
 
@@ -92,19 +91,18 @@ class Trial:
         self.folder, self.checks, self.later = tree.folder_of(crate), 0, []
 
     def check(self, texts, paths):
-        """What a check of these functions fails at, or of the whole crate where there are none, with these texts. It also says
-        whether the crate is proved. It is None where the check says nothing of functions."""
+        """What a check of these functions fails at, or of the whole crate where there are none, with these texts; None where it
+        says nothing of functions."""
         self.checks += 1
         words = ["rt", "check", "--jobs", str(self.jobs), *(word for it in paths for word in ("--only", it))]
         self.tree.restore_work(self.crate)
         with self.tree.changed(self.crate, texts):
             status, said = self.tree.run(f"{self.crate}.{self.checks}", f"crates/{self.crate}", *words)
-        verdict = (COUNTS if paths else VERDICT).search(said)
-        if not verdict:
+        if not (COUNTS if paths else LOGIC).search(said):
             say(f"{self.crate}: a check ended with status {status} and no verdict, and last said:")
             print(said[-1000:].strip("\n"), flush=True)
             return None
-        return Failures(said), verdict[1] == "proved"
+        return Failures(said)
 
     def try_all(self, placed):
         """Tries edits in groups, and last those whose callee was edited, too."""
@@ -120,7 +118,7 @@ class Trial:
     def try_group(self, group):
         found, half = self.check(group.texts, group.paths), len(group.members) // 2
         if found:
-            self.judge(group.members, found[0])
+            self.judge(group.members, found)
         elif half:
             # (one of them may be no code, or the check was killed)
             self.try_groups(group.members[:half])
@@ -144,12 +142,11 @@ class Trial:
         if not found:
             self.leave(placed.edit)
             return
-        failures, is_proved = found
-        if is_proved:
+        if found.is_proved:
             say(f"{placed.edit.label}: NOT REFUSED")
             self.verdicts.let_through(placed.edit, AT_ONCE)
         else:
-            self.refuse(placed.edit, failures.are_by_names(failures.failed))
+            self.refuse(placed.edit, found.are_by_names(found.failed))
 
     def leave(self, edit):
         self.verdicts.leave(edit, "a check of it gave no verdict")

@@ -2,8 +2,8 @@
 # Tries wrong bodies of a crate by a stand-in for rt, and notes them for the page that tools/status makes. tools/check_scripts
 # reads this file. It sets `top` to the repository's folder and `room` to one for files, and has `expect` and `expect_like`.
 
-# A stand-in for rt: to it a body is wrong that has the word `wrong`, and one with `gone` took away what a proof names. It says
-# so as rt does.
+# A stand-in for rt: to it a body is wrong that has the word `wrong`, and one with `gone` took away what a proof names. With
+# `goal` a goal is open, too, and with `lemma` a lemma fails. It says so as rt does.
 make_judge() {
   mkdir -p "$room/judge"
   cat >"$room/judge/rt" <<'JUDGE'
@@ -35,10 +35,14 @@ awk -v only="$(grep -oP '(?<=--only )\S+' <<<"$*")" '
   match($0, /fn [a-z]+/) { path = module "::" substr($0, RSTART + 3, RLENGTH - 3); said[path] = "proved" }
   /wrong/ { said[path] = "no proof" }
   /gone/ { said[path] = "not proved"; split(path, part, "::"); gone["proofs/" part[2] "/" part[3]] }
+  /gone.*goal/ { goal[path] }
+  /gone.*lemma/ { lemma = 1 }
   /waits/ && said["one::first"] == "no proof" { said[path] = "no proof: it calls `first`" }
   is_asked() { asked[path] }
   END {
     for (it in gone) print "./" it "/Answers.antt:1:1: error: `c` has no field `x`"
+    if (lemma) print "./proofs/Lemmas.antt:1:1: error: the two types differ"
+    for (path in goal) print "note: src/part.rt:1:1: it is not proved that what the function ensures holds"
     for (path in asked) { print "fn " path ": " said[path]; many++; bad += said[path] ~ /^no/ }
     print "only=" many " proved=" many - bad
     print "logic=" (bad ? "not-proved" : "proved")
@@ -128,6 +132,12 @@ check_names() {
   expect_like 'a wrong body without names, at once' 0 "*mutants: one/gone_fourth.edit: refused only by names
 $told" '' bodies --at-once --only gone one
   expect_like 'a wrong body without names, by its module' 0 "*$told" '' bodies --narrow --only gone one
+  local it
+  for it in goal lemma; do
+    put_body gone_fourth src/part.rt '{ 4 }' "{ gone $it }"
+    expect_like "a wrong body without names, and a $it" 0 '*mutants: one/gone_fourth.edit: refused
+1 refused, 0 not refused' '' bodies --at-once --only gone one
+  done
   rm "$room/bodies/crates/one/mutants/gone_fourth.edit"
 }
 

@@ -3,15 +3,18 @@ use Rattle.std.proofs.Common.{◌≡◌, ◌≢◌, ◌<◌, ℕ, List, length, 
 use Rattle.gs_scenario.specs.Refusal.{number_of}
 use Rattle.gs_streams.specs.declared.ReadFault.{ReadFault}
 use Rattle.gs_streams.specs.declared.ReadFault.TheVariants as reads
-use Rattle.gs_streams.specs.Inputs.{IsRefusal, input_too_long, too_long}
+use Rattle.gs_streams.specs.Inputs.{IsRefusal, IsScenario, input_too_long, too_long}
 use Rattle.gs_plan.specs.Limits.{longest_input}
 use Rattle.gs_plan.specs.declared.limits.Limits.{Limits}
+use Rattle.gs_plan.specs.declared.plan.Plan.{Plan}
 use Rattle.gs_check.specs.declared.answer.Answer.{Answer}
 use Rattle.gs_check.specs.declared.answer.NoAnswer.{NoAnswer}
+use Rattle.gs_check.specs.declared.answer.NoAnswer.TheVariants as causes
 use Rattle.gs_check.specs.declared.answer.Verdict.{Verdict}
 use Rattle.gs_check.specs.declared.answer.Verdict.TheVariants as verdicts
 use Rattle.gs_check.specs.Program.{Accepts, Answers, IsRefusalText}
 use Rattle.gs_check.specs.Readings.{AnswersText, AnswersUnread, IsReading}
+use Rattle.gs_check.specs.Summary.{summary}
 
 -- ---- of an input
 
@@ -66,3 +69,10 @@ answers_reading limits input (Err reads.Failed) made read unread whole = subst (
 answers_reading limits input (Err reads.TooLong) (Ok answer) read unread far = too_long_answers limits input answer far unread
 answers_reading limits input (Err reads.TooLong) (Err why) read unread far = tt
 answers_reading limits input (Err reads.NoMemory) made read unread whole = subst (λ (m : Result Answer NoAnswer). IfOk m (λ answer. Answers limits answer.verdict input answer.text.items)) (sym unread) tt
+
+-- what is answered to a scenario that is accepted
+pub accepted_answers : {E : Type 0} (limits : Limits) (bytes : List ℕ) (plan : Plan) (made : Result (Vec ℕ Global) E) (said : Result Answer NoAnswer) → IsScenario limits (Some bytes) plan
+    → IfOk made (λ text. text.items ≡ summary plan) → IfOk made (λ text. said ≡ Ok (record { verdict = verdicts.Accepted; text = text })) → IfErr made (λ fault. said ≡ Err causes.NoMemory) → AnswersText limits bytes said
+accepted_answers limits bytes plan (Ok text) said found summed ok none =
+    subst (AnswersText limits bytes) (sym ok) ((λ same. absurd cc), record { plan = plan; scenario = found; text = summed })
+accepted_answers limits bytes plan (Err fault) said found summed ok none = subst (AnswersText limits bytes) (sym none) refl

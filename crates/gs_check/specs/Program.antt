@@ -59,13 +59,13 @@ pub record Answered (limits : Limits) (verdict : Verdict) (input output output' 
   pub text : Appends output output' answer
   pub silent : Keeps errors errors'
 
--- This end stands for a read that failed, or an input that had not ended after `MOST_READS` reads. No field says which
--- came: `input failed` is on errors, or a front of it, and nothing more on the output.
+-- This end stands for a read that failed, or an input that had not ended after `MOST_READS` reads. No field says that either
+-- happened: `input failed` is on errors, or a front of it, and nothing more on the output.
 pub record InputFailed (output output' errors errors' : Option (List ℕ)) : Type 0 where
   pub line : AppendsFront errors errors' (codes "input failed\n")
   pub silent : Keeps output output'
 
--- A front of the answer to the input is on the output, even the whole of it. `output failed` is on errors, or a front of it.
+-- A front of the answer to the input is on the output, maybe all of it. `output failed` is on errors, or a front of it.
 -- No field says that a write failed.
 pub record OutputFailed (limits : Limits) (input output output' errors errors' : Option (List ℕ)) : Type 0 where
   pub verdict : Verdict

@@ -94,8 +94,10 @@ fn refusal_of(alloc: Global, bytes: &[u8], fault: &ScenarioFault) -> Result<Answ
     refused(fault, refusal_text(alloc, bytes, fault))
 }
 
-/// Returns the answer to a refused scenario, by the text that was made of its refusal. There is no answer only when out of
-/// memory for the plan or for the text.
+/// Returns the answer to a refused scenario, from the text that was made of its refusal.
+///
+/// # Errors
+/// `NoMemory` if memory ran out, for the plan or for the text.
 fn refused(fault: &ScenarioFault, made: Result<Vec<u8>, AllocError>) -> Result<Answer, NoAnswer>
     ensures text { number_of fault.now ≢ 32 → IfOk made (λ text. result ≡ Ok (record { verdict = Verdict.Refused; text = text })) }
     ensures none { IfErr made (λ _. result ≡ Err NoAnswer.NoMemory) }
