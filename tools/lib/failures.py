@@ -53,11 +53,17 @@ class Failures:
 
 def errors_in(lines):
     """The errors in definitions and proofs, by the folder of the file. A cycle of functions has a folder with a plus sign."""
-    found = {}
-    for place in filter(None, map(AT_PLACE.match, lines)):
-        file, what = place.groups()
-        if not file.startswith("src/") and what.startswith("error"):
-            found.setdefault(file.rpartition("/")[0].replace("/+", "/"), []).append(what)
+    found, last = {}, None
+    for line in lines:
+        place = AT_PLACE.match(line)
+        if place and not place[1].startswith("src/") and place[2].startswith("error"):
+            last = found.setdefault(place[1].rpartition("/")[0].replace("/+", "/"), [])
+            last.append(place[2])
+        elif last and line.startswith("  "):
+            # (an error goes on in lines with spaces before them)
+            last[-1] += line
+        else:
+            last = None
     return found
 
 

@@ -40,7 +40,7 @@ awk -v only="$(grep -oP '(?<=--only )\S+' <<<"$*")" '
   /waits/ && said["one::first"] == "no proof" { said[path] = "no proof: it calls `first`" }
   is_asked() { asked[path] }
   END {
-    for (it in gone) print "./" it "/Answers.antt:1:1: error: `c` has no field `x`"
+    for (it in gone) print "./" it "/Answers.antt:1:1: error: record `c`\n  has no field `x`"
     if (lemma) print "./proofs/Lemmas.antt:1:1: error: the two types differ"
     for (path in goal) print "note: src/part.rt:1:1: it is not proved that what the function ensures holds"
     for (path in asked) { print "fn " path ": " said[path]; many++; bad += said[path] ~ /^no/ }
