@@ -99,7 +99,8 @@ fn refusal_of(alloc: Global, bytes: &[u8], fault: &ScenarioFault) -> Result<Answ
 /// # Errors
 /// `NoMemory` if memory ran out, for the plan or for the text.
 fn refused(fault: &ScenarioFault, made: Result<Vec<u8>, AllocError>) -> Result<Answer, NoAnswer>
-    ensures text { number_of fault.now ≢ 32 → IfOk made (λ text. result ≡ Ok (record { verdict = Verdict.Refused; text = text })) }
+    ensures text { number_of fault.now ≢ 32
+        → IfOk made (λ text. result ≡ Ok (record { verdict = Verdict.Refused; text = text })) }
     ensures none { IfErr made (λ _. result ≡ Err NoAnswer.NoMemory) }
     ensures memory { number_of fault.now ≡ 32 → result ≡ Err NoAnswer.NoMemory }
 {

@@ -33,8 +33,8 @@ pub fn a_percentile_has_its_rank()
         → 1 ≤ rank → fewest rank pairs ≡ None → reached pairs < rank }
 {}
 
-/// A higher rank takes no fewer rounds, and a higher percentage takes none fewer, either. So the rounds to the first subscriber,
-/// to half of them and to the last ascend.
+/// If two ranks have numbers of rounds, the higher rank has no smaller one. The same holds for two percentages. The first rank
+/// has no more rounds than any percentage.
 pub fn more_subscribers_take_no_fewer_rounds()
     ensures ranks { (lower higher m n : ℕ) (pairs : List PairValue)
         → 1 ≤ lower → lower ≤ higher → fewest lower pairs ≡ Some m → fewest higher pairs ≡ Some n → m ≤ n }

@@ -247,7 +247,7 @@ pub fn table_of<'a>(
     Ok(Section { alloc, path, table })
 }
 
-/// Returns the bytes that were decoded, or none if the text has no hex digits in pairs.
+/// Returns the bytes that were decoded, or none if the text is not made of pairs of hex digits.
 ///
 /// # Errors
 /// `NoMemory` if memory ran out.
