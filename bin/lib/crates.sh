@@ -1,6 +1,28 @@
 # shellcheck shell=bash disable=SC2154
 # What crates.txt says, and whether a proved program stands. Scripts of bin/ read this file, once they have set `top` to
-# the repository's folder.
+# the repository's folder. A command such as gossip_stats is a word of the one program gossip_sim. Functions here take the
+# names of commands and of crates.
+
+# Prints the crate whose program has a command. Another name is that of a crate.
+crate_of() {
+  case $1 in
+    gossip_stats | gossip_trace | gossip_scores | gossip_picture | gossip_check | gossip_edit) echo gossip_sim ;;
+    *) echo "$1" ;;
+  esac
+}
+
+# Prints the word by which the program knows a command, and nothing where there is none.
+word_of() {
+  [ "$(crate_of "$1")" = "$1" ] || echo "${1#gossip_}"
+}
+
+# Prints the crates of these names, each once.
+crates_of() {
+  local it
+  for it; do
+    crate_of "$it"
+  done | awk '!seen[$0]++'
+}
 
 # Prints a line for each of these crates, and for those of this repository below them: its name, and what it uses.
 crates_below() {
@@ -20,7 +42,9 @@ crates_below() {
 }
 
 program_of() {
-  echo "$top/crates/$1/out/$1"
+  local crate
+  crate=$(crate_of "$1")
+  echo "$top/crates/$crate/out/$crate"
 }
 
 # Prints crates.txt, or a source of a crate or of those below it, that is newer than a file, if there is one. Further words
@@ -40,7 +64,7 @@ newer_source() {
 # (what `find` is to leave out where tests do not count)
 no_tests=(! -path '*/tests/*' ! -name tests.rt)
 
-# Says why the proved program of a crate can't be used, and nothing where it can. There are no tests in a program, so it is
+# Says why the proved program of a name can't be used, and nothing where it can. There are no tests in a program, so it is
 # not older for them.
 lack_of() {
   local program newer
@@ -48,7 +72,7 @@ lack_of() {
   if [ ! -x "$program" ]; then
     echo 'is not built'
   else
-    newer=$(newer_source "$program" "$1" "${no_tests[@]}")
+    newer=$(newer_source "$program" "$(crate_of "$1")" "${no_tests[@]}")
     [ -z "$newer" ] || echo "is older than $newer"
   fi
 }

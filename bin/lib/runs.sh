@@ -1,8 +1,8 @@
 # shellcheck shell=bash disable=SC2154,SC2034
 # What bin/gossip_sim, gossip_stats, gossip_picture, gossip_trace, gossip_scores and gossip_view have in common: the options
-# of a run, its input, and its programs, proved or not. Each of them sets `top` to the repository's folder, `tool` to its own
-# name, `program` to the program that it runs (none where the scenario is printed) and `what` to what that prints, and has
-# `usage`, and `take_option` for the options of its own.
+# of a run, its input, and the program, proved or not. Each of them sets `top` to the repository's folder, `tool` to its own
+# name, `program` to the name of the command that it runs (none where the scenario is printed) and `what` to what that
+# prints. Each has `usage`, and `take_option` for the options of its own.
 # shellcheck source-path=SCRIPTDIR
 # shellcheck source=crates.sh
 . "$top/bin/lib/crates.sh"
@@ -35,7 +35,7 @@ END
   --                ends the options
 
 A program that is not proved yet is compiled, with checks at run time, in about a minute, once for its sources. Standard
-error says so. bin/build proves and builds the programs; bin/build --unproved compiles them all at once.
+error says so. bin/build proves and builds the program; bin/build --unproved only compiles it.
 
 Status: 0 $1; 1 the scenario is refused, or can't be changed so; 2 it ran
 out of memory, or no thread started; 3 input or output failed; 4 the program is not built, with --proved, or can't be
@@ -50,7 +50,7 @@ stop() {
   exit "$1"
 }
 
-# Ends as the programs do where a read or a write failed.
+# Ends as the program does where a read or a write failed.
 fail() {
   echo "$1" >&2
   exit 3
@@ -128,11 +128,12 @@ open_input() {
 # The links of many peers take much memory, which is there faster in pages of 2 MiB (glibc 2.35 and later).
 tunables=${GLIBC_TUNABLES-glibc.malloc.hugetlb=1:glibc.malloc.top_pad=67108864}
 
-# Runs a program on standard input, proved or not. `shower` is what shows how far it is.
+# Runs a command on standard input, proved or not. `shower` is what shows how far it is.
 shower=()
 call() {
-  local status=0
-  GLIBC_TUNABLES=$tunables "${shower[@]}" "${path_of[$1]}" "${@:2}" || status=$?
+  local status=0 word
+  word=$(word_of "$1")
+  GLIBC_TUNABLES=$tunables "${shower[@]}" "${path_of[$1]}" ${word:+"$word"} "${@:2}" || status=$?
   [ -z "${is_unproved[$1]-}" ] || stop_at_fault "$1" "$status"
   return "$status"
 }
@@ -197,17 +198,11 @@ point() {
 
 # Says why the scenario was refused. The first line of gossip_check is what the program has said.
 print_words() {
-  local file=${files[0]--}
-  [ "$file" != - ] || file=FILE
-  if [ -n "${is_unproved[$program]-}" ] || [ -z "$(lack_of gossip_check)" ]; then
-    look_for gossip_check
-    compile_missing gossip_check
-    call gossip_check "${large[@]}" <"$scenario" >"$room/answer"
-    tail -n +2 "$room/answer" >&2
-    point refusal >&2
-  else
-    echo "$tool: bin/gossip_sim --check $file tells why in words" >&2
-  fi
+  # (it is the program that has just run)
+  path_of[gossip_check]=${path_of[$program]} is_unproved[gossip_check]=${is_unproved[$program]-}
+  call gossip_check "${large[@]}" <"$scenario" >"$room/answer"
+  tail -n +2 "$room/answer" >&2
+  point refusal >&2
 }
 
 # Prints the answer of gossip_check, and to which lines it points; or warns of what can be run. Ends with its status.
@@ -225,7 +220,7 @@ print_answer() {
   exit "$status"
 }
 
-# Makes these programs and the scenario ready, in a folder of its own. The scenario is standard input then.
+# Makes these commands and the scenario ready, in a folder of its own. The scenario is standard input then.
 make_ready() {
   guarded "${words[@]}"
   room=$TMPDIR
@@ -245,17 +240,19 @@ explain_refusal() {
 
 # Runs `program` with `arguments` on the scenario as the options change it, and ends with its status.
 run_changed() {
-  local programs=() status=0
+  local commands=() status=0 word
   open_input "${files[0]--}"
-  [ ${#edits[@]} -eq 0 ] || programs=(gossip_edit)
-  [ -z "$program" ] || programs+=("$program")
-  look_for "${programs[@]}"
+  [ ${#edits[@]} -eq 0 ] || commands=(gossip_edit)
+  [ -z "$program" ] || commands+=("$program")
+  look_for "${commands[@]}"
   # Nothing is left to do after a program that is proved and whose refusal needs no words.
   if [ ${#is_unproved[@]} -eq 0 ] && [ -z "$has_words" ] && is_as_it_comes; then
     say_reading
-    GLIBC_TUNABLES=$tunables exec "$(program_of "$program")" "${large[@]}" ${has_progress:+--progress} "${arguments[@]}"
+    word=$(word_of "$program")
+    GLIBC_TUNABLES=$tunables exec "${path_of[$program]}" ${word:+"$word"} "${large[@]}" ${has_progress:+--progress} \
+      "${arguments[@]}"
   fi
-  make_ready "${programs[@]}"
+  make_ready "${commands[@]}"
   if [ -z "$program" ]; then
     cat "$scenario" 2>/dev/null || fail 'output failed'
     exit

@@ -194,27 +194,26 @@ def hash_in(file):
 class Sweep:
     """Runs a scenario with settings, on as many threads as call it."""
 
-    def __init__(self, programs, is_proved, scenario, options, folder, checker):
-        self.programs, self.scenario, self.peer, self.folder = programs, scenario, options.peer, folder
+    def __init__(self, commands, is_proved, scenario, options, folder):
+        self.commands, self.scenario, self.peer, self.folder = commands, scenario, options.peer, folder
         self.proved, self.until = "yes" if is_proved else "no", options.until
         self.settings, self.columns, self.header = list(options.settings.values), (), []
         self.large = options.large
-        self.figures = [programs["gossip_stats"], *self.large, "--json", *options.figure_options]
+        self.figure_words = [*self.large, "--json", *options.figure_options]
         self.left_out = ", or --of leaves it out" if "--of" in options.figure_options else ""
         self.lock, self.live, self.is_stopped = threading.Lock(), set(), False
-        self.file, self.checker = options.file, functools.lru_cache(None)(checker)
-        self.scenario_of = functools.lru_cache(16)(self.made_anew)
-        self.explaining = threading.Lock()
+        self.file, self.scenario_of = options.file, functools.lru_cache(16)(self.made_anew)
         self.source = []
         if folder:
-            self.source = [hash_of(scenario), *map(hash_in, programs.values()), options.peer, self.until, self.proved]
+            programs = sorted({program for program, *_ in commands.values()})
+            self.source = [hash_of(scenario), *map(hash_in, programs), options.peer, self.until, self.proved]
             self.source += [*options.large, *options.figure_options]
         if folder and NETWORK in options.settings.values:
             self.source.append(hash_in(options.file))
 
     def learn_columns(self):
         """Asks gossip_stats which columns it has. Gives whether it answers."""
-        end = self.call(self.figures, NOTHING)
+        end = self.call("gossip_stats", self.figure_words, NOTHING)
         figures = figures_of(end.output.decode(errors="replace"), None) if end.status == 0 else {}
         self.columns = (*OF_RUNS, *(figures or OF_MESSAGES))
         self.header = [*self.settings, *self.columns]
@@ -253,27 +252,23 @@ class Sweep:
         settings = [it for it in settings if not it.startswith(f"{NETWORK}=")]
         end = self.scenario_of(network[0]) if network else End(0, self.scenario, "")
         if settings and end.status == 0:
-            end = self.call([self.programs["gossip_edit"], *settings], end.output)
+            end = self.call("gossip_edit", settings, end.output)
         if end.status == 0 and self.until is not None:
             end = self.cut(end.output)
         if end.status == 0:
             scenario = end.output
-            end = self.explained(self.call(self.figures, scenario), scenario)
+            end = self.explained(self.call("gossip_stats", self.figure_words, scenario), scenario)
         return end._replace(output=end.output.decode(errors="replace"))
 
     def made_anew(self, seed):
         """The scenario that a description gives by another seed."""
-        return self.call([SCENARIO, *self.large, "--seed", seed, "--", self.file], b"")
+        return self.call("scenario", [*self.large, "--seed", seed, "--", self.file], b"")
 
     def explained(self, end, scenario):
         """A run that was refused only by a number gets the words of gossip_check, which have the key."""
         if end.status != 1 or not re.fullmatch("scenario refused: [0-9]+", end.message):
             return end
-        with self.explaining:
-            program = self.checker()
-        if program is None:
-            return end
-        words = self.call([program, *self.large], scenario).output.decode(errors="replace").split("\n")[1:]
+        words = self.call("gossip_check", self.large, scenario).output.decode(errors="replace").split("\n")[1:]
         return end._replace(message="; ".join([end.message, *words]).strip("; "))
 
     def cut(self, scenario):
@@ -282,9 +277,9 @@ class Sweep:
         except Uncut as why:
             return End(1, b"", f"edit refused: {why}")
 
-    def call(self, words, data):
-        """Runs a program, in a session of its own: so a key that interrupts the sweep does not end it for itself."""
-        name = os.path.basename(words[0])
+    def call(self, name, words, data):
+        """Runs a command, in a session of its own: so a key that interrupts the sweep does not end it for itself."""
+        words = [*self.commands.get(name, [SCENARIO]), *words]
         with self.lock:
             if self.is_stopped:
                 raise Stopped

@@ -1,15 +1,17 @@
-# shellcheck shell=bash disable=SC2154
-# Programs that are not proved yet. Each is compiled once for its sources and for the kit, and is kept in out/unproved, which
-# may be deleted. bin/lib/runs.sh and bin/lib/ready read this file. They set `top` to the repository's folder, `room` to one for
-# files, `tool` to the name of the command and `what` to what it gives, and have `stop`.
+# shellcheck shell=bash disable=SC2154,SC2034
+# Programs that are not proved yet. Each crate is compiled once for its sources and for the kit, and is kept in out/unproved,
+# which may be deleted. Commands of one crate share its program. bin/lib/runs.sh and bin/lib/ready read this file. They set
+# `top` to the repository's folder, `room` to one for files, `tool` to the name of the command and `what` to what it gives.
+# They have `stop`, and use `path_of`, which shellcheck does not see.
 kept=$top/out/unproved
 
 # (tests have another compiler)
 compiler=${GUNTHARU_COMPILER:-$top/bin/lib/compile}
 
-# How many programs of a name are kept.
+# How many programs of a crate are kept.
 most_kept=8
 
+# By the names of commands: which are not proved, and where the program of each is.
 declare -A is_unproved=() path_of=()
 
 # The line that the kit has for `rt version`. (rt takes half a second to say it.)
@@ -36,15 +38,19 @@ place_of() {
   echo "$kept/$1-${hash:0:32}"
 }
 
-# Finds out which of these programs are not proved, and says so: in a line, or as the end where none may be run unproved.
+# Finds out which of these commands have no proved program, and says so: in a line, or as the end where none may be run
+# unproved.
 look_for() {
-  local it lack lacks=
+  local it crate lack lacks='' lacking_crates=()
+  for crate in $(crates_of "$@"); do
+    lack=$(lack_of "$crate")
+    [ -n "$lack" ] || continue
+    lacking_crates+=("$crate")
+    lacks=${lacks:+$lacks, and }"$crate $lack"
+  done
   for it; do
     path_of[$it]=$(program_of "$it")
-    lack=$(lack_of "$it")
-    [ -n "$lack" ] || continue
-    is_unproved[$it]=yes
-    lacks=${lacks:+$lacks, and }"$it $lack"
+    [[ " ${lacking_crates[*]} " != *" $(crate_of "$it") "* ]] || is_unproved[$it]=yes
   done
   [ -n "$lacks" ] || return 0
   [ -z "$is_strict" ] || stop 4 "$lacks: bin/build proves and builds it"
@@ -58,7 +64,7 @@ say_unproved() {
   echo "$tool: this $what does not come from a proved program: $lacking (bin/build proves it, in half an hour)" >&2
 }
 
-# Compiles a program to where it is kept, where no other run has done so meanwhile. Where a source has changed since it began,
+# Compiles a crate to where it is kept, where no other run has done so meanwhile. Where a source has changed since it began,
 # or where it can't be kept, the program is only for this run.
 compile() {
   local name=$1 place=$2 begun=$SECONDS made=$room/$1
@@ -74,22 +80,18 @@ compile() {
     xargs -r -d '\n' rm -f
 }
 
-# Says what is compiled, and how long that took the last time: on a terminal with the seconds that have gone by since, until
-# the compilers have ended.
+# Says which crates are compiled, and how long that took the last time: on a terminal with the seconds that have gone by
+# since, until the compilers have ended.
 say_compiling() {
-  local begun=$SECONDS it seconds last='' said='' usual='half a minute' line columns
+  local begun=$SECONDS it seconds last='' said='' line columns
   for it in "${missing[@]}"; do
     said=${said:+$said and }$it
-    case $it in
-      gossip_check | gossip_edit) ;;
-      *) usual='a minute' ;;
-    esac
     { read -r seconds <"$kept/$it.seconds"; } 2>/dev/null || continue
     last=$((seconds > ${last:-0} ? seconds : ${last:-0}))
   done
   said="compiling $said without proof"
   if [ -z "$last" ]; then
-    said+=", which takes about $usual"
+    said+=", which takes about a minute"
   else
     said+="; the last time it took $last seconds"
   fi
@@ -110,42 +112,53 @@ choose_place() {
   kept=$room/unproved
   mkdir -p "$kept" || stop 4 "there is no place for programs: $kept"
   for it in "${missing[@]}"; do
-    path_of[$it]=$kept/${path_of[$it]##*/}
+    place_for[$it]=$kept/${place_for[$it]##*/}
   done
 }
 
-# Compiles those of these programs that are not proved and not kept, side by side.
+# Compiles the crates of those of these commands that are not proved and not kept, side by side.
 compile_missing() {
-  local it missing=() compilers=()
+  local it unproved=() missing=() compilers=()
+  local -A place_for=()
   for it; do
-    [ -n "${is_unproved[$it]-}" ] || continue
-    path_of[$it]=$(place_of "$it")
-    if [ -x "${path_of[$it]}" ]; then
+    [ -z "${is_unproved[$it]-}" ] || unproved+=("$it")
+  done
+  for it in $(crates_of "${unproved[@]}"); do
+    place_for[$it]=$(place_of "$it")
+    if [ -x "${place_for[$it]}" ]; then
       # (the ones that were used last are kept)
-      touch -c "${path_of[$it]}" 2>/dev/null
+      touch -c "${place_for[$it]}" 2>/dev/null
     else
       missing+=("$it")
     fi
   done
-  [ ${#missing[@]} -gt 0 ] || return 0
+  [ ${#missing[@]} -eq 0 ] || compile_crates
+  for it in "${unproved[@]}"; do
+    path_of[$it]=${place_for[$(crate_of "$it")]}
+  done
+}
+
+# Compiles the crates that are missing, and notes where their programs are.
+compile_crates() {
+  local it
   choose_place
   for it in "${missing[@]}"; do
-    compile "$it" "${path_of[$it]}" &
+    compile "$it" "${place_for[$it]}" &
     compilers+=($!)
   done
   say_compiling
   for it in "${missing[@]}"; do
     wait "${compilers[0]}" || { cat "$room/$it.said" >&2 && stop 4 "$it could not be compiled, as the lines above say"; }
     compilers=("${compilers[@]:1}")
-    [ -x "${path_of[$it]}" ] || path_of[$it]=$room/$it
+    [ -x "${place_for[$it]}" ] || place_for[$it]=$room/$it
   done
 }
 
-# Ends where an unproved program was ended by a check at run time, or by a bad access.
+# Ends where the unproved program of a command was ended by a check at run time, or by a bad access.
 stop_at_fault() {
   case $2 in
     132 | 133 | 134 | 135 | 136 | 139)
-      stop 5 "$1 met a fault (signal $(($2 - 128))): rt try in crates/$1 says where"
+      stop 5 "$1 met a fault (signal $(($2 - 128))): rt try in crates/$(crate_of "$1") says where"
       ;;
   esac
 }

@@ -3,11 +3,11 @@
 usage: view.py NAME ROUNDS PEER SCORES UNPROVED SCENARIO PAGE <TRACE
 
 ROUNDS and PEER are empty where all are wanted, SCORES, a file of lines, where there are none, and UNPROVED where the
-programs that made the lines are proved. SCENARIO is the file of the scenario that was run. PAGE is written. Status: 0 it is; 1 there are too many events; 3 output failed; 4 a
-package is missing; 64 there is no such peer, or no such round; 65 a line is none.
+program that made the lines is proved. SCENARIO is the file of the scenario that was run. PAGE is written. Status: 0 it is;
+1 there are too many events; 3 output failed; 4 a package is missing; 64 there is no such peer, or no such round; 65 a line
+is none.
 """
 import json
-import os
 import sys
 
 sys.dont_write_bytecode = True

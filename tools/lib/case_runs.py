@@ -1,4 +1,4 @@
-"""Runs the programs over the scenarios of cases."""
+"""Runs the program's commands over the scenarios of cases."""
 import re
 import subprocess
 import threading
@@ -15,7 +15,7 @@ LONGEST = 120  # seconds of a run
 
 @dataclass
 class Ended:
-    """What a program wrote, and its status."""
+    """What a command wrote, and its status."""
 
     status: int
     output: str
@@ -29,17 +29,23 @@ class Ended:
 
 
 class Runner:
-    """Runs programs by their names, and makes plain scenarios of descriptions."""
+    """Runs commands by their names, and makes plain scenarios of descriptions."""
 
-    def __init__(self, program_of):
-        self.program_of = program_of
+    def __init__(self, command_of):
+        self.command_of = command_of
         self.scenarios = {}
+        self.has_hung = False
         self.lock = threading.Lock()
 
-    def run(self, program, options, scenario):
-        done = subprocess.run(
-            [*self.program_of(program), *options], input=scenario, capture_output=True, timeout=LONGEST, check=False
-        )
+    def run(self, name, options, scenario):
+        if self.has_hung:
+            raise ValueError("it was not run, since another run did not end")
+        words = [*self.command_of(name), *options]
+        try:
+            done = subprocess.run(words, input=scenario, capture_output=True, timeout=LONGEST, check=False)
+        except subprocess.TimeoutExpired as why:
+            self.has_hung = True
+            raise ValueError(f"{name} {' '.join(options)} did not end within {LONGEST} seconds") from why
         return Ended(done.returncode, done.stdout.decode(errors="replace"), done.stderr.decode(errors="replace"))
 
     def scenario(self, file):

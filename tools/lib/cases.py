@@ -27,7 +27,7 @@ class Expectation:
 
 
 class Case:
-    """A scenario, and the files beside it that say what is printed of it."""
+    """A scenario, and the files next to it that say what is printed of it."""
 
     def __init__(self, file, runner):
         self.file, self.runner = file, runner
@@ -41,7 +41,7 @@ class Case:
         self.expectations = list(self._expectations(comment))
 
     def _expectations(self, comment):
-        """Each file beside the scenario, once; a file that nothing explains is a fault."""
+        """Each file next to the scenario, once; a file that nothing explains is a fault."""
         stem = self.file.removesuffix(".toml")
         folder = os.path.dirname(self.file)
         found = {
@@ -55,7 +55,7 @@ class Case:
                 name = f"{stem}.{label}.{kind}" if label else f"{stem}.{kind}"
                 wanted.append(Expectation(name, kind, tuple(shlex.split(options))))
         if not wanted:
-            raise Fault("no file beside it says what is printed")
+            raise Fault("no file next to it says what is printed")
         for it in sorted(found ^ {it.file for it in wanted}):
             raise Fault(f"{os.path.basename(it)} is " + ("not named in the comment" if it in found else "missing"))
         return wanted

@@ -1,6 +1,6 @@
 # shellcheck shell=bash disable=SC2154
 # Runs bin/gossip_stats and bin/gossip_picture. tools/check_statuses reads this file. It sets `top` to the repository's
-# folder, `room` to one for files and `example` to a scenario, and has `expect` and `expect_like`.
+# folder, `room` to one for files and `example` to a scenario, and has `expect`, `expect_like` and `program`.
 
 stats() {
   "$top/bin/gossip_stats" --proved "$@"
@@ -14,9 +14,9 @@ stats_of_input() {
   stats "$@" <"$example"
 }
 
-# The program itself, over the example.
+# The program's own command, over the example.
 program_of_figures() {
-  "$top/crates/gossip_stats/out/gossip_stats" "$@" <"$example"
+  program stats "$@" <"$example"
 }
 
 # Prints what is counted in one row for all peers, and otherwise in all rows of each round, and of each link.
@@ -42,12 +42,11 @@ for path, first in (sys.argv[2], "round"), (sys.argv[3], "from"):
 END
 }
 
-# How their options and FILE are read. What they print of a scenario is compared with what the tests of their crates compare
-# it with.
+# How their options and FILE are read. What they print of the example is compared with files of tools/lib.
 check_figures() {
   local figures picture file rounds usage more='--help says more'
-  figures=$(cat "$top/crates/gossip_stats/stdout")
-  picture=$(cat "$top/crates/gossip_picture/stdout")
+  figures=$(cat "$top/tools/lib/two_subscribers.stats")
+  picture=$(cat "$top/tools/lib/two_subscribers.svg")
   expect 'figures of a file' 0 "$figures" '' stats "$example"
   expect 'figures of standard input' 0 "$figures" '' stats_of_input
   expect 'figures of a changed scenario' 0 "$figures" '' stats --workers 1 --set rounds=10 "$example"
@@ -66,15 +65,15 @@ check_figures() {
   done
   expect 'figures of nothing' 1 '' 'scenario refused: 28 round_ms' stats /dev/null
   usage='usage: gossip_stats [--large] [--progress] [--by PEERS|--rounds|--topics|--links] [--of PEERS] [--group NAME=PEERS].. [--csv|--json]'
-  expect 'rounds before the limits, by the program' 64 '' "$usage" program_of_figures --progress --large
+  expect 'rounds before the limits, by the program' 0 "$figures" "$rounds" program_of_figures --progress --large
   expect 'two forms of figures' 64 '' "$usage" stats --csv --json "$example"
   expect 'publishers of no message' 64 '' 'gossip_stats: --rounds has no messages, so there is no place for --by; --help says more' \
     stats --by a --rounds "$example"
   expect 'groups of links' 64 '' 'gossip_stats: --links has no groups, so there is no place for --group; --help says more' \
     stats --links --group one=a "$example"
   expect 'a group of the name of all' 64 '' "$usage" stats --group all=a "$example"
-  expect 'publishers of no message, by the program' 64 '' "$usage" "$top/crates/gossip_stats/out/gossip_stats" --by a --topics
-  expect 'arguments of the program that figures are of' 64 '' "$usage" "$top/crates/gossip_stats/out/gossip_stats" --group a
+  expect 'publishers of no message, by the program' 64 '' "$usage" program stats --by a --topics
+  expect 'arguments of the program that figures are of' 64 '' "$usage" program stats --group a
   expect 'figures of no such file' 66 '' "gossip_stats: there is no file $room/none" stats "$room/none"
   expect 'an option that figures do not have' 64 '' \
     'gossip_stats: there is no option --check; --help says which there are' stats --check "$example"

@@ -1,14 +1,19 @@
-"""What a gate printed: the commit, the kit, the last line of each check, and how long it took. For tools/status."""
+"""What a gate printed: the commit, the kit, the last line of each check, how long it took, and how many proofs were new. For
+tools/status."""
 import re
 
 BEGIN = re.compile(r"the gate of (\S+), with (.+)")
 END = re.compile(r"the gate took (.+)")
+NEW = re.compile(r"done in this run: (\d+ of the \d+ proofs)|every proof and must-fail edit was done in this run")
 PASSED = r"\d+ passed, \d+ failed"
 # The checks in the order in which .ci/run has them, and what the last line of each is like.
 CHECKS = {
     "tools/mutants --applies": r"\d+ apply, \d+ do not",
     "tools/check_docs": r"\d+ faults",
+    "tools/lint": r"\d+ scripts, \d+ faults",
     "rt ci": PASSED,
+    "tools/check_cases": PASSED,
+    "tools/check_cases --changed": PASSED,
     "tools/check_statuses": PASSED,
     "tools/check_scripts": PASSED,
     "tools/check_scenarios": PASSED,
@@ -45,4 +50,6 @@ def read_gate(text):
         if not found:
             break
         said[check], place = lines[found[0]], found[0] + 1
-    return {"commit": begin[1], "kit": begin[2], "took": took[1], "checks": said}
+    new = NEW.search(text)
+    proofs = new and (new[1] or "all proofs")
+    return {"commit": begin[1], "kit": begin[2], "took": took[1], "new": proofs, "checks": said}

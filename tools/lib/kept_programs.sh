@@ -61,6 +61,7 @@ in_groups() {
 }
 
 # A program is compiled for its sources, once.
+# shellcheck disable=SC2016 # (`eval` expands the commands)
 check_kept() {
   local base='$room/tree/crates/gs_base' said='gossip_sim: compiling gossip_sim without proof' usage
   usage='usage: gossip_stats [--large] [--progress] [--by PEERS|--rounds|--topics|--links] [--of PEERS] [--group NAME=PEERS].. [--csv|--json]'

@@ -1,9 +1,9 @@
 # shellcheck shell=bash disable=SC2154
-# Runs gossip_picture. tools/check_statuses reads this file. It sets `top` to the repository's folder, `room` to one for files
-# and `example` to a scenario, and has `expect` and `from_folder`.
+# Runs the program's command `picture`. tools/check_statuses reads this file. It sets `top` to the repository's folder, `room`
+# to one for files and `example` to a scenario, and has `expect` and `program`.
 
 picture() {
-  "$top/crates/gossip_picture/out/gossip_picture" "$@"
+  program picture "$@"
 }
 
 picture_of() {
@@ -55,9 +55,10 @@ with_peers() {
 
 # Statuses, what a strict parser reads, and the pictures of the book.
 check_pictures() {
-  local file name many svg='{http://www.w3.org/2000/svg}svg' usage='usage: gossip_picture [--large] [--progress] [--of PEERS] [TOPIC]'
+  local file name many svg='{http://www.w3.org/2000/svg}svg' usage='usage: gossip_picture [--large] [--progress] [--of PEERS] [--topic TOPIC]'
   local disc='Each disc is a peer, by the lowest score that a neighbour' gives='gives it at the end' share='Share of the subscribers'
-  expect 'two topics to draw' 64 '' "$usage" picture_of "$example" news olds
+  expect 'two topics to draw' 64 '' "$usage" picture_of "$example" --topic news --topic olds
+  expect 'a topic to draw without its option' 64 '' "$usage" picture_of "$example" news
   expect 'no peers to draw by' 64 '' "$usage" picture_of "$example" --of
   expect 'two choices of peers to draw by' 64 '' "$usage" picture_of "$example" --of a --of b
   expect 'no scenario to draw' 1 '' 'scenario refused: 28 round_ms' picture_of_nothing
@@ -65,11 +66,11 @@ check_pictures() {
   expect 'a picture on a full device' 3 '' 'output failed' picture_to_full_device
   expect 'a picture of two peers' 0 "$svg 2 peers, names of 1 letters, Topic news" '' parts_of_picture "$example"
   expect 'a picture of a topic with markup' 0 "$svg 2 peers, names of 1 letters, Topic <a & \"b'\\xc3\\xa9>" '' \
-    parts_of_picture "$example" "<a & \"b'é>"
+    parts_of_picture "$example" --topic "<a & \"b'é>"
   expect 'whose scores a picture has' 0 "$disc $gives"$'\n'"$share that each message reached" '' heads_of_picture "$example"
   expect 'whose scores a picture by one peer has' 0 \
     "$disc among a,<&'\"> $gives"$'\n'"$share among a,<&'\"> that each message reached" '' \
-    heads_of_picture "$example" news --of "a,<&'\">"
+    heads_of_picture "$example" --topic news --of "a,<&'\">"
   for many in 1 16 64; do
     with_peers "$many" >"$room/peers.toml"
     expect "a picture of an empty run of $many" 0 "$svg $many peers, names of 32 letters, Topic " '' \

@@ -251,10 +251,10 @@ peer = [{name = "a"}, {name = "b", address = "x"}, {name = "c", address = "x"}]\
   points 'addresses without w6' '' '' "${peers}params.p6_threshold = 2\nparams.w6 = 0\n"
 }
 
-# What the commands say, whose programs are the stand-ins.
+# What the commands say, whose program is the stand-in.
 check_pointing() {
   local first said scenario='seed = 1\n[params]\nd = 70\n' words='29 params.d\nin words\n'
-  first=$(unproved answer 'gossip_check is not built')$'\ngossip_sim: this is the first fault, and there may be more'
+  first=$(unproved answer)$'\ngossip_sim: this is the first fault, and there may be more'
   said=$'told by gossip_sim\nin words\nparams.d, line 3: d = 70'
   expect_like 'words that point' 1 'gossip_sim  seed = 1*' "*$said" answered "$words" "$scenario" gossip_sim --words
   expect_like 'figures that are refused' 1 'gossip_stats  seed = 1*' "*${said/sim/stats}" \

@@ -65,12 +65,12 @@ def scenario(workers, capacity, peers, dials, *lines):
     return text + do(2, "a", "publish", hex="616263") + "".join(lines)
 
 
-# Its trace has some pages, which gossip_trace writes one after the other.
+# Its trace has some pages, which `gossip_sim trace` writes one after the other.
 TRACED = scenario(1, 8, "ab", ["ab"], do(3, "a", "publish", hex="5a" * 20_000))
 
 
 def rows(parts):
-    """What is run; gs_refusals, where no call fails, writes `parts`. (Of gossip_trace the text is not known here.)"""
+    """What is run; gs_refusals, where no call fails, writes `parts`. (Of the trace the text is not known here.)"""
     for workers, name in (1, "1 worker"), (3, "3 workers"), (0, "no links"):
         text = scenario(workers or 1, 8, "ab", ["ab"])
         yield Row(f"two peers, {name}", text, 0, TWO_REPORT, "", "ab", workers)

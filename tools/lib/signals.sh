@@ -13,14 +13,14 @@ marked() {
 # Starts a script of the tree, and ends it by a signal once a stand-in sleeps. Prints what then is left: processes, and what
 # lies below $TMPDIR. The end took `took` milliseconds.
 ended() {
-  local signal=$1 status=0 child begun turn mark=$RANDOM.$RANDOM
+  local signal=$1 status=0 child begun mark=$RANDOM.$RANDOM
   shift
   rm -f "$room/asleep"
   # `env` gives signals back their effect, which a shell takes from what it starts in the background.
   PATH="$room/fake/bin:$PATH" GUNTHARU_COMPILER="$room/fake/compiler" TMPDIR="$room/temporary" ENDED_BY=$mark \
     env --default-signal "$@" <"$example" >/dev/null 2>"$room/said_by_it" &
   child=$!
-  for turn in {1..400}; do
+  for _ in {1..400}; do
     [ ! -e "$room/asleep" ] || break
     sleep 0.05
   done
@@ -38,11 +38,13 @@ ended() {
 }
 
 ended_soon() {
-  local took turn status=0
-  for turn in {1..6}; do
+  local took status=0
+  for _ in {1..6}; do
     status=0
     ended "$@" >"$room/left" || status=$?
-    [ "$took" -gt "$longest_end" ] && [ ! -s "$room/left" ] || break
+    if [ "$took" -le "$longest_end" ] || [ -s "$room/left" ]; then
+      break
+    fi
   done
   cat "$room/left"
   [ "$took" -le "$longest_end" ] || echo "the end took $took milliseconds"
@@ -62,14 +64,6 @@ change_library() {
   echo "// $RANDOM" >>"$room/tree/crates/gs_base/src/lib.rt"
 }
 
-compile_all() {
-  local it
-  for it in 'gossip_sim --check' 'gossip_sim --seed 1' gossip_stats gossip_picture gossip_trace gossip_scores; do
-    # shellcheck disable=SC2086 # (they are words)
-    in_tree tried=0 $it <"$example" >/dev/null 2>&1
-  done
-}
-
 # Those scripts that start others or make folders, and are not run under bin/lib/guard.
 unguarded() {
   grep -L -d skip -e '^ *guarded\b' -e lib/runs.sh "$top"/{bin,tools}/* | xargs -r grep -lE '^#!.*bash|subprocess|tempfile'
@@ -83,7 +77,7 @@ check_signals() {
   change_library
   check_end 'a run that compiles' 'INT TERM HUP' tried=slow "$bin/gossip_sim" --seed 2
   check_end 'a sweep that compiles' TERM tried=slow "$bin/sweep" --seeds 1..4 "$example"
-  compile_all
+  in_tree tried=0 build --unproved >/dev/null 2>&1
   check_end 'a run' 'INT TERM HUP' tried=long "$bin/gossip_sim"
   check_end 'a check' TERM tried=long "$bin/gossip_sim" --check
   check_end 'figures' INT tried=long "$bin/gossip_stats" --csv

@@ -3,8 +3,8 @@
 # It sets `top` to the repository's folder, `room` to one for files and `example` to a scenario, and has `expect` and
 # `expect_like`.
 
-# A stand-in for the compiler: it makes a program which prints its name and what it is given, and ends as $tried says. What it
-# compiles is noted in $room/compiled. With $tried of none, there is no program.
+# A stand-in for the compiler: it makes a program which prints the name of the command and what that is given, and ends as
+# $tried says. What it compiles is noted in $room/compiled. With $tried of none, there is no program.
 make_compiler() {
   cat >"$room/fake/compiler" <<END
 #!/bin/sh
@@ -13,8 +13,10 @@ echo "\$1" >>"$room/compiled"
 [ "\$tried" != slow ] || { touch "$room/asleep" && exec sleep 600; }
 cat >"\$2" <<'PROGRAM'
 #!/bin/sh
-name=\$(basename "\$0")
-name=\${name%%-*}
+name=gossip_sim
+case \${1-} in
+  stats | trace | scores | picture | check | edit) name=gossip_\$1 && shift ;;
+esac
 [ "\$tried" != fault ] || kill -ILL \$\$
 [ "\$name" != gossip_check ] || [ -z "\${answer-}" ] || { printf '%b' "\$answer" && exit "\$tried"; }
 [ "\$tried" != long ] || { touch "$room/asleep" && exec sleep 600; }
@@ -43,17 +45,13 @@ END
   chmod +x "$room/fake/bin/rt"
 }
 
-# A tree with nothing built, whose programs stand above one library. (The scripts of tools/ are tried there by signals.)
+# A tree with nothing built, whose program stands above one library. (The scripts of tools/ are tried there by signals.)
 make_tree() {
-  local crate
-  mkdir -p "$room/fake/bin" "$room/temporary" "$room/tree/crates/gs_base/mutants"
+  mkdir -p "$room/fake/bin" "$room/temporary" "$room/tree/crates"/{gossip_sim/src,gs_base/{src,mutants}}
   cp -r "$top/bin" "$top/tools" "$room/tree"
-  for crate in gossip_sim gossip_check gossip_edit gossip_stats gossip_picture gossip_trace gossip_scores gs_base; do
-    mkdir -p "$room/tree/crates/$crate/src"
-    touch "$room/tree/crates/$crate/src"/{tests,"$([ "$crate" = gs_base ] && echo lib || echo main)"}.rt
-    echo text >"$room/tree/crates/$crate/stdout"
-    echo "$crate: gs_base"
-  done | sed 's/^gs_base.*/gs_base:/' >"$room/tree/crates.txt"
+  touch "$room/tree/crates"/{gossip_sim/src/{tests,main},gs_base/src/{tests,lib}}.rt
+  echo text >"$room/tree/crates/gossip_sim/stdout"
+  printf 'gs_base:\ngossip_sim: gs_base\n' >"$room/tree/crates.txt"
   mkdir "$room/tree/crates/gs_refusals"
   printf 'right\n' >"$room/tree/crates/gs_refusals/stdout"
   cp /bin/true "$room/tree/crates/gs_refusals/gs_refusals"
@@ -118,41 +116,38 @@ piped_description() {
   printf '[[group]]\n' | answer='27 group\nin words\n' in_tree "tried=$1" "${@:2}"
 }
 
-# And from a file, by proved programs, with nothing that reads it twice.
+# And from a file, by a proved program, with nothing that reads it twice.
 description_in_file() {
   printf '[[group]]\n' >"$room/described"
   in_tree tried=1 "$@" <"$room/described"
 }
 
-# What is said about these programs where they are not proved.
+# What bin/gossip_sim says where the program is not proved.
 unproved() {
-  echo "gossip_sim: this $1 does not come from a proved program: $2 (bin/build proves it, in half an hour)"
+  echo "gossip_sim: this $1 does not come from a proved program: gossip_sim is not built (bin/build proves it, in half an hour)"
 }
 
 compiling() {
-  echo "gossip_sim: compiling $1 without proof, which takes about ${2-a minute}"
+  echo "$1: compiling gossip_sim without proof, which takes about a minute"
 }
 
 # What is run where nothing is proved.
 check_unproved() {
-  local one='gossip_sim is not built' said usage
-  said=$(unproved report "$one")
+  local said usage
+  said=$(unproved report)
   expect 'a report without proof' 0 'gossip_sim  scenario' "$said"$'\n'"$(compiling gossip_sim)"$'\ntold by gossip_sim' tried 0
   expect 'a status without proof' 2 'gossip_sim  scenario' "$said"$'\ntold by gossip_sim' tried 2
-  expect 'words without proof' 1 'gossip_sim  scenario' \
-    "$said"$'\ntold by gossip_sim\n'"$(compiling gossip_check 'half a minute')"$'\ntold by gossip_check\nin words' tried 1 --words
-  expect 'words without proof again' 1 'gossip_sim  scenario' "$said"$'\ntold by gossip_sim\ntold by gossip_check\nin words' \
+  expect 'words without proof' 1 'gossip_sim  scenario' "$said"$'\ntold by gossip_sim\ntold by gossip_check\nin words' \
     tried 1 --words
   expect 'an answer without proof' 0 $'gossip_check  scenario\nin words' \
-    "$(unproved answer 'gossip_check is not built')"$'\ntold by gossip_check\nwarning: this is no TOML 1.0, so there are no other warnings' \
+    "$(unproved answer)"$'\ntold by gossip_check\nwarning: this is no TOML 1.0, so there are no other warnings' \
     tried 0 --check
   expect 'a change without proof' 0 'gossip_sim  gossip_edit seed=2 scenario' \
-    "$(unproved report "gossip_edit is not built, and $one"; compiling gossip_edit 'half a minute')"$'\ntold by gossip_edit\ntold by gossip_sim' \
-    tried 0 --seed 2
-  expect 'a print without proof' 64 '' "$(unproved scenario 'gossip_edit is not built')"$'\ntold by gossip_edit' \
+    "$said"$'\ntold by gossip_edit\ntold by gossip_sim' tried 0 --seed 2
+  expect 'a print without proof' 64 '' "$(unproved scenario)"$'\ntold by gossip_edit' \
     tried 64 --print --seed 2
   expect 'a printed change without proof' 0 'gossip_edit seed=2 scenario' \
-    "$(unproved scenario 'gossip_edit is not built')"$'\ntold by gossip_edit' tried 0 --print --seed 2
+    "$(unproved scenario)"$'\ntold by gossip_edit' tried 0 --print --seed 2
   expect 'a direct run without proof' 0 'gossip_sim --direct scenario' "$said"$'\ntold by gossip_sim' tried 0 --direct
   expect 'a direct run with the rounds' 0 'gossip_sim --progress --direct scenario' "$said"$'\ntold by gossip_sim' \
     tried 0 --progress --direct
@@ -171,27 +166,27 @@ check_unproved() {
   expect_like 'large figures' 0 'gossip_stats --large --csv scenario' '*told by gossip_stats' tried_figures --csv --large
   expect_like 'a large trace' 0 'gossip_trace --large --peer b scenario' '*told by gossip_trace' tried_trace --large --peer b
   expect_like 'large scores' 0 'gossip_scores --large scenario' '*told by gossip_scores' tried_scores --large
-  expect_like 'a large picture' 0 'gossip_picture --large news scenario' '*told by gossip_picture' tried_picture --topic news --large
+  expect_like 'a large picture' 0 'gossip_picture --large --topic news scenario' '*told by gossip_picture' tried_picture --topic news --large
   expect_like 'a long scenario that is changed' 1 '' 'edit refused: the scenario has more than 8388608 bytes' changed_long
   expect_like 'a long scenario that is cut' 1 '' 'edit refused: the scenario has more than 8388608 bytes' changed_long --until 3
   expect_like 'figures without proof' 0 'gossip_stats --csv scenario' \
-    'gossip_stats: this set of figures does not come from a proved program: gossip_stats is not built*told by gossip_stats' \
+    'gossip_stats: this set of figures does not come from a proved program: gossip_sim is not built*told by gossip_stats' \
     tried_figures --csv
   expect_like 'a trace without proof' 0 'gossip_trace  scenario' \
-    'gossip_trace: this trace does not come from a proved program: gossip_trace is not built*told by gossip_trace' \
+    'gossip_trace: this trace does not come from a proved program: gossip_sim is not built*told by gossip_trace' \
     tried_trace
   expect_like 'some lines of a trace' 0 'gossip_trace --peer b --rounds 2..3 --events graft,prune --topic news scenario' '*' \
     tried_trace --peer b --rounds=2..3 --events graft,prune --topic news
   expect_like 'lines of a word that is no event' 0 'gossip_trace --events publised,refused scenario' \
     'gossip_trace: no line has the event publised; --help lists them
-*gossip_trace is not built*' tried_trace --events publised,refused
+*gossip_sim is not built*' tried_trace --events publised,refused
   usage='usage: gossip_trace [--large] [--progress] [--peer NAME] [--topic TOPIC] [--rounds A..B] [--events A,B,..]'
   expect 'a trace of two peers' 64 '' "$usage" tried_trace --peer b --peer c
   expect 'a trace of rounds that are none' 64 '' "$usage" tried_trace --rounds 3..2
   expect 'a trace of a round without an end' 64 '' "$usage" tried_trace --rounds 3
   expect 'a trace of no peer' 64 '' 'gossip_trace: --peer takes a value; --help says more' tried_trace --peer
   expect_like 'scores without proof' 0 'gossip_scores  scenario' \
-    'gossip_scores: this set of scores does not come from a proved program: gossip_scores is not built*told by gossip_scores' \
+    'gossip_scores: this set of scores does not come from a proved program: gossip_sim is not built*told by gossip_scores' \
     tried_scores
   expect_like 'some scores' 0 'gossip_scores --peer b --neighbour s --rounds 2..3 --format csv scenario' '*' \
     tried_scores --peer b --neighbour=s --rounds 2..3 --format=csv
@@ -211,19 +206,21 @@ check_unproved() {
   expect_like 'figures of nobody' 0 'gossip_stats --by  --group none= scenario' '*' tried_figures --by '' --group none=
   expect 'figures of no value' 64 '' 'gossip_stats: --of takes a value; --help says more' tried_figures --of
   expect 'figures of no group' 64 '' 'gossip_stats: --group takes a value; --help says more' tried_figures --csv --group
-  expect_like 'a picture without proof' 0 'gossip_picture news scenario' \
-    'gossip_picture: this picture does not come from a proved program: gossip_picture is not built*told by gossip_picture' \
+  expect_like 'a picture without proof' 0 'gossip_picture --topic news scenario' \
+    'gossip_picture: this picture does not come from a proved program: gossip_sim is not built*told by gossip_picture' \
     tried_picture --topic news
   expect_like 'an unproved run that meets a fault' 5 '' \
     "$said*gossip_sim met a fault (signal 4): rt try in crates/gossip_sim says where" tried fault
+  expect_like 'unproved figures that meet a fault' 5 '' \
+    '*gossip_stats: gossip_stats met a fault (signal 4): rt try in crates/gossip_sim says where' in_tree tried=fault gossip_stats "$example"
   expect 'a closed output without proof' 3 '' "$said"$'\noutput failed' tried_to_closed_output
   expect 'a closed input without proof' 3 '' "$said"$'\ninput failed' tried_from_closed_input
-  expect 'nothing proved to run' 4 '' "gossip_sim: $one: bin/build proves and builds it" tried 0 --proved
+  expect 'nothing proved to run' 4 '' "gossip_sim: gossip_sim is not built: bin/build proves and builds it" tried 0 --proved
   expect 'nothing proved to sweep' 4 '' \
-    'sweep: gossip_edit is not built, and gossip_stats is not built: bin/build proves and builds it' \
+    'sweep: gossip_sim is not built: bin/build proves and builds it' \
     in_tree tried=0 sweep --proved "$example"
   expect_like 'a sweep without proof' 1 $'seed,status,message,proved,*\n1,5,told by gossip_edit,no,*' \
-    'sweep: this sweep does not come from a proved program: gossip_edit is not built, and gossip_stats is not built*1 of 1 runs *' \
+    'sweep: this sweep does not come from a proved program: gossip_sim is not built*1 of 1 runs *' \
     in_tree tried=5 sweep --seeds 1 "$example"
 }
 
@@ -244,18 +241,16 @@ scenario: $room/misspelt was not read to its end, so there may be more faults" i
 
 # bin/build --unproved, twice.
 check_compiled() {
-  local said='build: compiled without proof, or proved before:' all='gossip_sim gossip_check gossip_edit gossip_stats gossip_picture gossip_trace gossip_scores'
+  local said='build: compiled without proof, or proved before: gossip_sim'
   rm -rf "$room/tree/out/unproved"
-  expect 'a build without proof' 0 '' \
-    "build: compiling ${all// / and } without proof, which takes about a minute"$'\n'"$said $all" in_tree tried=0 build --unproved
-  expect 'a build without proof again' 0 '' "$said $all" in_tree tried=none build --unproved
-  expect 'a run of what was so built' 0 'gossip_sim  scenario' \
-    "$(unproved report 'gossip_sim is not built')"$'\ntold by gossip_sim' tried 0
+  expect 'a build without proof' 0 '' "$(compiling build)"$'\n'"$said" in_tree tried=0 build --unproved
+  expect 'a build without proof again' 0 '' "$said" in_tree tried=none build --unproved
+  expect 'a run of what was so built' 0 'gossip_sim  scenario' "$(unproved report)"$'\ntold by gossip_sim' tried 0
   rm -rf "$room/tree/out/unproved"
-  expect 'a build without proof of one' 0 '' \
-    "build: compiling gossip_check without proof, which takes about half a minute"$'\n'"$said gossip_check" \
-    in_tree tried=0 build --unproved gossip_check
-  expect_like 'a build without proof that fails' 4 '' '*build: gossip_edit could not be compiled, as the lines above say' \
+  expect 'a build without proof by the names of commands' 0 '' "$(compiling build)"$'\n'"$said" \
+    in_tree tried=0 build --unproved gossip_check gossip_edit
+  rm -rf "$room/tree/out/unproved"
+  expect_like 'a build without proof that fails' 4 '' '*build: gossip_sim could not be compiled, as the lines above say' \
     in_tree tried=none build --unproved gossip_edit
   expect 'a build without proof by jobs' 64 '' 'build: --jobs and --unproved do not go together; --help says more' \
     in_tree tried=0 build --jobs 2 --unproved
@@ -267,8 +262,12 @@ check_build() {
   expect 'a program that is not there' 64 '' 'build: there is no program gs_base in crates.txt' in_tree unproved= build gs_base
   expect_like 'a proof that fails' 4 '' '*proving gs_base*gs_base is not proved*the log is crates/gs_base/out/build.log' \
     in_tree unproved=gs_base build
-  expect_like 'a build' 0 '' '*proved and built: gossip_sim gossip_check gossip_edit gossip_stats gossip_picture gossip_trace gossip_scores' in_tree unproved= build
+  expect 'a command that is no word of the program' 64 '' 'build: there is no program gossip_view in crates.txt' \
+    in_tree unproved= build gossip_view
+  expect_like 'a build' 0 '' '*proved and built: gossip_sim' in_tree unproved= build
   expect 'a build where all stands' 0 '' 'build: proved and built: gossip_sim' in_tree unproved=gs_base build gossip_sim
+  expect 'a build by the name of a command where all stands' 0 '' 'build: proved and built: gossip_sim' \
+    in_tree unproved=gs_base build gossip_stats
   touch "$place/gs_base/src/tests.rt"
   expect 'a run of what was built' 0 'proved: scenario' '' tried none
   expect_like 'a check of what was built' 0 'proved: scenario' 'warning: *' tried none --check --proved
@@ -276,9 +275,9 @@ check_build() {
   said='gossip_sim is older than crates/gs_base/src/lib.rt'
   expect 'a program that is too old' 4 '' "gossip_sim: $said: bin/build proves and builds it" tried none --proved
   expect_like 'an unproved run instead of it' 0 'gossip_sim  scenario' "*a proved program: $said*" tried 0
-  printf '#!/bin/sh\nexit 1\n' >"$place/gossip_sim/out/gossip_sim"
-  expect 'a refusal whose words are not built' 1 '' 'gossip_sim: bin/gossip_sim --check FILE tells why in words' \
-    tried none --words
+  # shellcheck disable=SC2016 # (it is a script)
+  printf '#!/bin/sh\n[ "${1-}" != check ] || printf "28 seed\\nin words\\n"\nexit 1\n' >"$place/gossip_sim/out/gossip_sim"
+  expect 'words of what was built' 1 '' 'in words' tried none --words
   said='this looks like a description, and from standard input or a pipe none is read: bin/scenario - | bin/gossip_sim'
   expect 'a description as the input of what was built' 1 '' "gossip_sim: $said" description_in_file gossip_sim
 }

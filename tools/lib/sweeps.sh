@@ -289,14 +289,14 @@ check_sweeps() {
   check_sweep_arguments
 }
 
-# A tree with two stand-ins. gossip_edit prints the settings of a run in order. gossip_stats has figures for them in a file,
-# or none: a line has `new` and `lowest_score`, which may be left out. The first line is for the scenario by which a sweep
-# learns of columns. That ends with a peer.
-make_stand_ins_for_sweeps() {
-  local place=$room/joined/crates
-  mkdir -p "$place/gossip_edit/out" "$place/gossip_stats/out"
+# A tree with a stand-in for the program. As gossip_edit it prints the settings of a run in order. As gossip_stats it has
+# figures for them in a file, or none: a line has `new` and `lowest_score`, which may be left out. The first line is for the
+# scenario by which a sweep learns of columns. That ends with a peer.
+make_stand_in_for_sweeps() {
+  local place=$room/joined/crates/gossip_sim/out
+  mkdir -p "$place"
   cp -r "$top/bin" "$room/joined"
-  printf 'gossip_edit:\ngossip_stats:\n' >"$room/joined/crates.txt"
+  echo 'gossip_sim:' >"$room/joined/crates.txt"
   touch "$room/joined/it.toml"
   cat >"$room/joined/figures" <<'END'
 peer = [{ name = "a" }]: 0 0.000000
@@ -310,23 +310,23 @@ d=7 seed=2: 5
 d=7 seed=3: 5 -80.000000
 d=8 seed=2: 5
 END
-  printf '#!/bin/sh\nprintf "%%s\\n" "$@" | sort | xargs\n' >"$place/gossip_edit/out/gossip_edit"
-  cat >"$place/gossip_stats/out/gossip_stats" <<END
+  cat >"$place/gossip_sim" <<END
 #!/bin/sh
+[ "\$1" != edit ] || { shift && printf '%s\n' "\$@" | sort | xargs && exit; }
 figures=\$(grep -F "\$(tail -n 1):" "$room/joined/figures") || { echo 'none of that' >&2 && exit 1; }
 set -- \${figures##*:}
 printf '{"messages":[],"within":[{"outcome":"missed","pairs":0}],"parts":[{"pairs":0}],'
 printf '"peers":[{"peer":"(all)","new":%s,"lowest_score":%s}]}\n' "\$1" "\${2-null}"
 END
-  chmod +x "$place"/*/out/*
+  chmod +x "$place/gossip_sim"
 }
 
 in_joined() {
   (cd "$room/joined" && bin/sweep "$@")
 }
 
-# A sweep with them over seeds, of all columns that they have figures for.
-with_stand_ins() {
+# A sweep with it over seeds, of all columns that it has figures for.
+with_stand_in() {
   in_joined --columns new,lowest_score,proved --over seed "$@" it.toml
 }
 
@@ -379,11 +379,11 @@ refused_joined() {
 
 check_joined_arguments() {
   local why='--over takes keys that are swept, and'
-  refused_joined 'rows over a key that is not swept' "$why seed is not" with_stand_ins --set d=4
+  refused_joined 'rows over a key that is not swept' "$why seed is not" with_stand_in --set d=4
   refused_joined 'rows over no key' "$why an empty one is not" in_joined --seeds 1 --over= it.toml
   refused_joined 'rows over a key twice' '--over has d twice' in_joined --set d=4 --over d,d it.toml
-  refused_joined 'a run twice' '--over joins different runs, and seed has 3 twice' with_stand_ins --seeds 1..4,3
-  refused_joined 'a setting twice' '--over joins different runs, and d has 4 twice' with_stand_ins --seeds 1 --set d=4,5,4
+  refused_joined 'a run twice' '--over joins different runs, and seed has 3 twice' with_stand_in --seeds 1..4,3
+  refused_joined 'a setting twice' '--over joins different runs, and d has 4 twice' with_stand_in --seeds 1 --set d=4,5,4
   refused_joined 'how a joined run ended' 'status is of one run: with --over, runs and failed say how many have figures' \
     in_joined --seeds 1 --over seed --columns new,status it.toml
   refused_joined 'an unknown column of joined rows' 'there is no column runs' \
@@ -395,15 +395,15 @@ check_joined_arguments() {
 # were not proved.
 check_joined() {
   local said='sweep: 6 of 15 runs failed, first d=6 seed=2: none of that' all=(--set 'd=4,6,7,8,9' --seeds 1..3)
-  make_stand_ins_for_sweeps
+  make_stand_in_for_sweeps
   expect 'points of Student'"'"'s t' 0 $'\n12.706 4.303 2.042 2.042 2.021 1.984 1.96 1.96' '' t_points
-  expect 'rows that are joined' 1 "$(joined_rows)" "$said" with_stand_ins "${all[@]}"
+  expect 'rows that are joined' 1 "$(joined_rows)" "$said" with_stand_in "${all[@]}"
   expect 'rows that are joined over the first key' 1 "$(joined_rows)" "${said/d=6 seed=2/seed=1 d=8}" \
-    with_stand_ins --seeds 1..3 --set d=4,6,7,8,9
-  expect 'a table of joined rows' 1 "$(joined_table)" "$said" with_stand_ins --table "${all[@]}"
-  expect 'rows to keep, and to join' 1 "$(joined_rows)" "$said" with_stand_ins --into rows "${all[@]}"
+    with_stand_in --seeds 1..3 --set d=4,6,7,8,9
+  expect 'a table of joined rows' 1 "$(joined_table)" "$said" with_stand_in --table "${all[@]}"
+  expect 'rows to keep, and to join' 1 "$(joined_rows)" "$said" with_stand_in --into rows "${all[@]}"
   sed -i 's/^4,2,0,,yes/4,2,0,,no/; s/^8,3,1,\(.*\),yes/8,3,1,\1,no/' "$room/joined/rows"/*.csv
   expect 'rows with few that are proved' 1 "$(joined_rows | sed '/^[48]/s/yes/mixed/')" "$said" \
-    with_stand_ins --into rows "${all[@]}"
+    with_stand_in --into rows "${all[@]}"
   check_joined_arguments
 }

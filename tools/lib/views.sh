@@ -1,5 +1,5 @@
 # shellcheck shell=bash disable=SC2154
-# What bin/gossip_view takes and refuses, where scripts stand in for programs, and what a page shows for given lines. The lists of
+# What bin/gossip_view takes and refuses, where a script stands in for the program, and what a page shows for given lines. The lists of
 # numbers are worked out by hand from bin/lib/view_events.py. tools/check_scripts reads this file.
 
 tried_view() {
@@ -45,10 +45,10 @@ check_views() {
     on_terminal "$top/bin/gossip_view" "$example"
   expect 'a page without the library' 4 '' "gossip_view: $room/lost/d3.min.js can't be read; apt-get install libjs-d3 brings it" \
     env "GUNTHARU_D3=$room/lost" "$top/bin/gossip_view" "$example"
-  expect_like 'a page with --proved' 4 '' 'gossip_view: gossip_trace is not built*: bin/build proves and builds it' \
+  expect_like 'a page with --proved' 4 '' 'gossip_view: gossip_sim is not built: bin/build proves and builds it' \
     tried_view --proved
   expect_like 'a page of lines that are none of a trace' 3 '' \
-    'gossip_view: this page does not come from a proved program: gossip_trace is not built*told by gossip_trace
+    'gossip_view: this page does not come from a proved program: gossip_sim is not built*told by gossip_trace
 gossip_view: line 1 of the trace: *' tried_view
   expect_like 'a page of a scenario that is refused' 1 '' '*told by gossip_*' refused_view
   check_pages

@@ -172,8 +172,12 @@ gate_output() {
 the gate of 12345678, with a kit
 7 apply, 0 do not
 0 faults
+12 scripts, 0 faults
 rt: one proved
+rt: ok; handles allowed: Wait; done in this run: 1 of the 4 proofs (of crates and of their tests); the others are kept
 9 passed, 0 failed
+45 passed, 0 failed
+44 passed, 0 failed
 ok: a case: 0
 8 passed, 0 failed
 7 passed, 0 failed
@@ -194,10 +198,13 @@ status() {
 
 # The page on the last gate and on what is noted: of a text that has changed only in comments, and of one that has changed.
 check_status() {
+  # shellcheck disable=SC2016 # (the quotes are those of the page)
   local lines='`rt ci`|9 passed, 0 failed|' part=$room/bodies/crates/one/src/part.rt page=$room/bodies/docs/STATUS.md
   gate_output none >"$room/gate"
   expect 'a gate that is kept' 0 '' '' status --gate "$room/gate"
-  expect_like 'the page on it' 0 "*12345678*a kit. It took 1 minutes and 2 seconds, 3 tasks*|$lines
+  expect_like 'the page on it' 0 "*12345678*a kit. It took 1 minutes and 2 seconds, 3 tasks at once, and made 1 of the 4 proofs.*|$lines
+|\`tools/check_cases\`|45 passed, 0 failed|
+|\`tools/check_cases --changed\`|44 passed, 0 failed|
 |\`tools/check_statuses\`|8 passed, 0 failed|*|\`tools/mutants --sample\`|1 refused, 0 not refused|*
 Let through: one/same_second.edit, one/waiting_fourth.edit.*
 |\`one\`|7|6|0|1|

@@ -1,2 +1,10 @@
-pub mod Arguments
+pub mod CheckCommand
+pub mod Commands
+pub mod EditCommand
 pub mod OneOutput
+pub mod PictureCommand
+pub mod ReportCommand
+pub mod ScoresCommand
+pub mod StatsCommand
+pub mod StatsWishes
+pub mod TraceCommand

@@ -89,33 +89,8 @@ status_of (ends.Answered verdicts.NoMemory) = 2
 status_of ends.InputFailed = 3
 status_of ends.OutputFailed = 3
 
--- ---- arguments
-
--- what is written for wrong arguments
-abbrev pub usage : List ℕ
-usage = codes "usage: gossip_check [--large]\n"
-
--- the status for wrong arguments, as in sysexits.h (EX_USAGE)
-abbrev pub wrong_arguments : ℕ
-wrong_arguments = 64
-
 -- some end of the program, and the status for it
 pub record EndsSomehow (limits : Limits) (status : ℕ) (input output output' errors errors' : Option (List ℕ)) : Type 0 where
   pub ended : ExitStatus
   pub ends : EndsAs limits ended input output output' errors errors'
   pub status_is : status ≡ status_of ended
-
--- nothing of the input is read; the usage is on errors, or a front of it, and nothing more on the output
-pub record IsMisused (status : ℕ) (input input' output output' errors errors' : Option (List ℕ)) : Type 0 where
-  pub unread : input' ≡ input
-  pub told : AppendsFront errors errors' usage
-  pub silent : Keeps output output'
-  pub status_is : status ≡ wrong_arguments
-
--- how the program ends within these limits, with these arguments after those for the limits
-abbrev pub EndsFor
-    : Limits → List (List ℕ) → (status : ℕ) (input input' output output' errors errors' : Option (List ℕ)) → Type 0
-EndsFor limits [] status input input' output output' errors errors' =
-    EndsSomehow limits status input output output' errors errors'
-EndsFor limits (option ∷ options) status input input' output output' errors errors' =
-    IsMisused status input input' output output' errors errors'

@@ -1,18 +1,16 @@
 //! The program: what it reads, what it writes and how it ends.
-ghost use Rattle.std.specs.Prelude.{◌≡◌, ◌≢◌, ◌≤◌, ◌↔◌, ◌⊎◌, Err, IfOk, List, Option, ℕ, length, map, string_bytes};
+ghost use Rattle.std.specs.Prelude.{◌≡◌, ◌≤◌, ◌↔◌, ◌⊎◌, Err, IfOk, List, Option, ℕ, length};
 ghost use Rattle.std.specs.Process.{exit_status};
 ghost use Rattle.gs_plan.specs.Limits.{longest_input};
 ghost use Rattle.gs_plan.specs.declared.limits.Limits.{Limits as LimitsValue};
-ghost use Rattle.gs_streams.specs.Arguments.{limits_for, options_in};
-ghost use Rattle.gs_streams.specs.Streams.{AppendsFront};
-ghost use Rattle.gs_check.specs.Program.{Answers, EndsAs, EndsFor, no_memory_answer, status_of, usage, wrong_arguments};
+ghost use Rattle.gs_check.specs.Program.{Answers, EndsAs, status_of};
 ghost use Rattle.gs_check.specs.Readings.{EndsFor as EndsAfter, IsReading};
 
 use crate::answer::{Answer, NO_MEMORY_ANSWER, NoAnswer, Verdict, answer_after};
 use gs_plan::Limits;
-use gs_streams::{ReadFault, limits_in, read_input, try_to_write, write_text};
+use gs_streams::{ReadFault, read_input, try_to_write, write_text};
 use std::alloc::Global;
-use std::io::{ErrorKind, Read, Write};
+use std::io::{Read, Write};
 use std::process::ExitCode;
 
 /// How a run of the program ends.
@@ -38,58 +36,6 @@ impl From<ExitStatus> for ExitCode {
         })
     }
 }
-
-/// Runs the program with these arguments over these streams, and returns the exit status of its process. `--large` asks for
-/// the large limits. With any other argument it reads no input, writes the usage or a front of it to `errors`, and ends with
-/// 64.
-pub fn run_for<R, W, E>(
-    alloc: Global,
-    arguments: &[String],
-    input: &mut R,
-    output: &mut W,
-    errors: &mut E,
-) -> ExitCode
-where
-    R: Read,
-    W: Write,
-    E: Write,
-    ensures { EndsFor (limits_for (map string_bytes arguments.now)) (options_in (map string_bytes arguments.now))
-        (exit_status result) (R.remaining input.old) (R.remaining input.new)
-        (W.contents output.old) (W.contents output.new) (E.contents errors.old) (E.contents errors.new) }
-{
-    let (limits, options) = limits_in(arguments);
-    match options {
-        [] => ExitCode::from(run(alloc, limits, input, output, errors)),
-        [_, ..] => refuse(errors),
-    }
-}
-
-/// Writes the usage, or a front of it, to `errors`, and returns the status for wrong arguments.
-fn refuse<E: Write>(errors: &mut E) -> ExitCode
-    ensures told { AppendsFront (E.contents errors.old) (E.contents errors.new) usage }
-    ensures status { exit_status result ≡ wrong_arguments }
-{
-    try_to_write(errors, USAGE);
-    ExitCode::from(64)
-}
-
-/// Writes why the arguments could not be read, or a front of that, to `errors`. Returns the exit status of the process: 2 when
-/// out of memory for them, and 64 if one of them is not UTF-8.
-pub fn refuse_unread<E: Write>(cause: ErrorKind, errors: &mut E) -> ExitCode
-    ensures memory { cause ≡ ErrorKind.OutOfMemory
-        → AppendsFront (E.contents errors.old) (E.contents errors.new) no_memory_answer × (exit_status result ≡ 2) }
-    ensures text { cause ≢ ErrorKind.OutOfMemory
-        → AppendsFront (E.contents errors.old) (E.contents errors.new) usage × (exit_status result ≡ wrong_arguments) }
-{
-    if cause == ErrorKind::OutOfMemory {
-        try_to_write(errors, NO_MEMORY_ANSWER);
-        return ExitCode::from(2);
-    }
-    refuse(errors)
-}
-
-/// How the program is called.
-pub const USAGE: &str = "usage: gossip_check [--large]\n";
 
 /// Reads a scenario within these limits from the input, and writes the answer about it to the output. Where the input or the
 /// output fails, it writes a line about that to `errors`. Where that line can't be written, the status stays the same.

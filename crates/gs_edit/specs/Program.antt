@@ -195,15 +195,6 @@ EndsFor (causes.Refused refusal) arguments status errors errors' =
 EndsFor causes.InputFailed arguments status errors errors' = Says input_line ends.InputFailed status errors errors'
 EndsFor causes.NoMemory arguments status errors errors' = Says no_memory_line ends.NoMemory status errors errors'
 
--- for arguments that can't be read, only the line of the status is written
-abbrev pub RefusesArguments : ExitStatus → (errors errors' : Option (List ℕ)) → Type 0
-RefusesArguments ends.NoMemory errors errors' = AppendsFront errors errors' no_memory_line
-RefusesArguments ends.WrongArguments errors errors' = AppendsFront errors errors' usage_line
-RefusesArguments ends.Changed errors errors' = ⊥
-RefusesArguments ends.EditRefused errors errors' = ⊥
-RefusesArguments ends.InputFailed errors errors' = ⊥
-RefusesArguments ends.OutputFailed errors errors' = ⊥
-
 -- the status that the process ends with
 abbrev pub status_of : ExitStatus → ℕ
 status_of ends.Changed = 0

@@ -1,7 +1,7 @@
 //! The program: what it reads, what it writes and how it ends.
 ghost use Rattle.std.specs.Prelude.{◌≡◌, ◌↔◌, ◌⊎◌, Err, List, Option, map, string_bytes, ℕ};
 ghost use Rattle.std.specs.Process.{exit_status};
-ghost use Rattle.gs_edit.specs.Program.{EndsAs, EndsFor, IsChanged, IsNotChanged, IsReading, RefusesArguments, status_of};
+ghost use Rattle.gs_edit.specs.Program.{EndsAs, EndsFor, IsChanged, IsNotChanged, IsReading, status_of};
 
 use crate::change::changed;
 use crate::edits::NoChange;
@@ -10,7 +10,7 @@ use crate::reasons::refusal_line;
 use gs_plan::Limits;
 use gs_streams::{ReadFault, read_input, try_to_write, write_text};
 use std::alloc::Global;
-use std::io::{ErrorKind, Read, Write};
+use std::io::{Read, Write};
 use std::process::ExitCode;
 
 /// How a run of the program ends.
@@ -99,20 +99,6 @@ where
         Ok(text) => write_changed(text.as_str(), output, errors),
         Err(cause) => tell_cause(alloc, arguments, cause, errors),
     }
-}
-
-/// Writes the line for arguments that could not be read, or a front of it, to `errors`, and returns the status. The status
-/// is `NoMemory` when out of memory for the arguments. Otherwise it is `WrongArguments`, because one of them is no text.
-pub fn refuse_arguments<E: Write>(cause: ErrorKind, errors: &mut E) -> ExitStatus
-    ensures told { RefusesArguments result (E.contents errors.old) (E.contents errors.new) }
-    ensures memory { (result ≡ ExitStatus.NoMemory) ↔ (cause ≡ ErrorKind.OutOfMemory) }
-{
-    if cause == ErrorKind::OutOfMemory {
-        try_to_write(errors, NO_MEMORY);
-        return ExitStatus::NoMemory;
-    }
-    try_to_write(errors, USAGE);
-    ExitStatus::WrongArguments
 }
 
 fn write_changed<W, E>(text: &str, output: &mut W, errors: &mut E) -> ExitStatus

@@ -55,6 +55,3 @@ pub fn large_limits_change_no_plan()
         → plan_of limits text ≡ Ok plan
         → plan_of Large text ≡ Ok plan }
 {}
-
-#[cfg(test)]
-mod tests;

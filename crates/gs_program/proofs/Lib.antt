@@ -1,3 +1,5 @@
+mod Further
+mod Orders
 pub mod Meets
 pub mod Noted
 pub mod Planned

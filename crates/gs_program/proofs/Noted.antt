@@ -2,7 +2,6 @@
 use Rattle.std.proofs.Common.{◌≡◌, ◌++◌, ◌∙◌, ℕ, Bool, true, false, List, [], ◌∷◌, Option, Some, None, refl, sym, ap, subst, subst₂, true≢false}
 use Rattle.std.specs.Prelude.{Result, Ok, Err, IfErr, IfOk, OnErr, is_ok}
 use Rattle.std.specs.Borrow.{GName}
-use Rattle.std.specs.Io.KnownBytes.{Appends}
 use Rattle.gs_direct.specs.Stages.{HasShownAll, HasShownFirst, HasShownMore}
 use Rattle.gs_direct.specs.declared.stages.Stage.{Stage}
 use Rattle.gs_plan.specs.declared.limits.Limits.{Limits}

@@ -1,6 +1,5 @@
--- The argument that wants progress, and how a program ends when its arguments are wrong, or could not be read.
-use Rattle.std.specs.Prelude.{◌≡◌, ℕ, Bool, false, if◌then◌else◌, nat_eq, List, [], ◌∷◌, Option, codes}
-use Rattle.std.specs.Cmp.Lexicographic.{pointwise}
+-- How a program ends when its arguments are wrong, or could not be read.
+use Rattle.std.specs.Prelude.{◌≡◌, ℕ, List, Option, codes}
 use Rattle.std.specs.Io.KnownBytes.{Keeps}
 use Rattle.gs_streams.specs.Streams.{AppendsFront}
 use Rattle.gs_program.specs.declared.program.ExitStatus.TheVariants.{RunRefused}
@@ -17,16 +16,6 @@ no_memory = codes "run refused: 24\n"
 -- the status in that case, which is that of a refused run
 abbrev pub refused : ℕ
 refused = status_of RunRefused
-
--- lines about the progress of a run are wanted only where `--progress` comes first
-abbrev pub progress_for : List (List ℕ) → Bool
-progress_for [] = false
-progress_for (first ∷ more) = pointwise nat_eq first (codes "--progress")
-
--- the arguments after that
-abbrev pub after_progress : List (List ℕ) → List (List ℕ)
-after_progress [] = []
-after_progress (first ∷ more) = if pointwise nat_eq first (codes "--progress") then more else first ∷ more
 
 -- this line is on errors, or a front of it, and the status is the wanted one
 pub record IsRefusedSo (line : List ℕ) (wanted status : ℕ) (errors errors' : Option (List ℕ)) : Type 0 where

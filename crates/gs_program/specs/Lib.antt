@@ -1,4 +1,7 @@
 pub mod Arguments
+pub mod Asked
+pub mod Options
+pub mod Orders
 pub mod Printing
 pub mod Program
 pub mod Endings

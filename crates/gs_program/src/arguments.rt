@@ -1,7 +1,7 @@
 //! The arguments of a program.
-ghost use Rattle.std.specs.Prelude.{◌≡◌, ◌≢◌, map, string_bytes};
+ghost use Rattle.std.specs.Prelude.{◌≡◌, ◌≢◌};
 ghost use Rattle.std.specs.Process.{exit_status};
-ghost use Rattle.gs_program.specs.Arguments.{IsRefusedSo, after_progress, no_memory, progress_for, refused, wrong_arguments};
+ghost use Rattle.gs_program.specs.Arguments.{IsRefusedSo, no_memory, refused, wrong_arguments};
 
 use gs_streams::try_to_write;
 use std::alloc::AllocGlobal;
@@ -20,23 +20,6 @@ pub fn arguments_of<T: Env + AllocGlobal>(rt: &T) -> io::Result<Vec<String>> {
         arguments.push(argument)?;
     }
     Ok(arguments)
-}
-
-/// Returns whether lines about the progress of a run are wanted, and the other arguments. They are wanted if `--progress` is
-/// the first argument.
-pub fn progress_in(options: &[String]) -> (bool, &[String])
-    ensures wanted { result.0 ≡ progress_for (map string_bytes options.now) }
-    ensures options { map string_bytes result.1.now ≡ after_progress (map string_bytes options.now) }
-{
-    match options {
-        [] => (false, options),
-        [first, more @ ..] => {
-            if first.as_str() == "--progress" {
-                return (true, more);
-            }
-            (false, options)
-        }
-    }
 }
 
 /// Writes how a program is called, or a front of that, and returns the status for wrong arguments.
@@ -62,6 +45,3 @@ pub fn refuse_unread<E: Write>(cause: ErrorKind, errors: &mut E, usage: &str) ->
     }
     refuse_arguments(errors, usage)
 }
-
-#[cfg(test)]
-mod tests;

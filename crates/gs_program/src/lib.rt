@@ -2,6 +2,8 @@
 #![tactic(auto)]
 
 mod arguments;
+mod asked;
+mod options;
 mod printer;
 mod program;
 mod progress;
@@ -9,7 +11,9 @@ mod reading;
 mod summary;
 mod telling;
 
-pub use arguments::{arguments_of, progress_in, refuse_arguments, refuse_unread};
+pub use arguments::{arguments_of, refuse_arguments, refuse_unread};
+pub use asked::{LARGE, PROGRESS, limits_of, program_with, summary_with};
+pub use options::{GivenOption, MOST_GIVEN, OptionRule, Options, options_come_in_any_order};
 pub use printer::{PrintFault, Printer, print_whole};
 pub use program::{ExitStatus, Program};
 pub use progress::Progress;

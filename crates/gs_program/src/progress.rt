@@ -70,6 +70,3 @@ fn round_words(alloc: Global, round: u64, rounds: u64) -> Result<String, AllocEr
 {
     Ok(format!(in alloc; "round {round} of {rounds}")?)
 }
-
-#[cfg(test)]
-mod tests;

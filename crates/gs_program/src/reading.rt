@@ -83,6 +83,3 @@ fn refuse<E: Write>(
     tell_refusal(alloc, errors, fault);
     Err(ExitStatus::ScenarioRefused)
 }
-
-#[cfg(test)]
-mod tests;

@@ -77,6 +77,3 @@ fn peer_of(fault: NetFault) -> Option<PeerNo>
         NetFault::NoThread => None,
     }
 }
-
-#[cfg(test)]
-mod tests;

@@ -2,8 +2,7 @@
 use gs_params::{DEFAULT_FACTORS, Factors};
 use gs_router_testkit::Call::{Hear, Heartbeat, Subscribe};
 use gs_router_testkit::CasePart::{Graft, Have, Message, Prune, Want};
-use gs_router_testkit::Id::Of;
-use gs_router_testkit::{Call, Case, CasePart, Id, Kind, NOTHING};
+use gs_router_testkit::{Call, Case, CasePart, Kind, NOTHING};
 
 /// What a router does at which moments, and what it has left of that in the end.
 pub struct Moment {
@@ -51,8 +50,8 @@ pub static A_BACKOFF: Moment = Moment {
     },
 };
 
-/// An identifier, four times.
-const FOUR_TIMES: &[Id<'static>] = &[Of(&[1]), Of(&[1]), Of(&[1]), Of(&[1])];
+/// A payload, four times.
+const FOUR_TIMES: &[&[u8]] = &[&[1], &[1], &[1], &[1]];
 
 /// The router announces `a` to both neighbours. Ten of the twelve offers are answered, and three of the four requests. Only
 /// the promise of `00` is broken, and charged at the third heartbeat. What came is gossiped at three of the heartbeats, to
@@ -62,18 +61,18 @@ pub static OFFERS: Moment = Moment {
     case: NOTHING,
     calls: &[
         (0, Subscribe("a")),
-        (0, Hear(1, &[Have("a", &[Of(&[0])])])),
-        (0, Hear(1, &[Have("a", &[Of(&[1])])])),
-        (0, Hear(1, &[Have("a", &[Of(&[2])])])),
-        (0, Hear(1, &[Have("a", &[Of(&[3])])])),
-        (0, Hear(1, &[Have("a", &[Of(&[4])])])),
-        (0, Hear(1, &[Have("a", &[Of(&[5])])])),
-        (0, Hear(1, &[Have("a", &[Of(&[6])])])),
-        (0, Hear(1, &[Have("a", &[Of(&[7])])])),
-        (0, Hear(1, &[Have("a", &[Of(&[8])])])),
-        (0, Hear(1, &[Have("a", &[Of(&[9])])])),
-        (0, Hear(1, &[Have("a", &[Of(&[10])])])),
-        (0, Hear(1, &[Have("a", &[Of(&[11])])])),
+        (0, Hear(1, &[Have("a", &[&[0]])])),
+        (0, Hear(1, &[Have("a", &[&[1]])])),
+        (0, Hear(1, &[Have("a", &[&[2]])])),
+        (0, Hear(1, &[Have("a", &[&[3]])])),
+        (0, Hear(1, &[Have("a", &[&[4]])])),
+        (0, Hear(1, &[Have("a", &[&[5]])])),
+        (0, Hear(1, &[Have("a", &[&[6]])])),
+        (0, Hear(1, &[Have("a", &[&[7]])])),
+        (0, Hear(1, &[Have("a", &[&[8]])])),
+        (0, Hear(1, &[Have("a", &[&[9]])])),
+        (0, Hear(1, &[Have("a", &[&[10]])])),
+        (0, Hear(1, &[Have("a", &[&[11]])])),
         (500, Hear(1, &[Message("a", &[1])])),
         (500, Hear(1, &[Message("a", &[2])])),
         (500, Hear(1, &[Message("a", &[3])])),

@@ -12,7 +12,7 @@ use gs_params::SeededWords;
 use gs_plan::Act;
 use gs_router::{Router, RouterFault};
 use gs_rules::Trace;
-use gs_wire::{MAX_BODY, decode, encode};
+use gs_wire::{MAX_BODY, encode};
 use std::alloc::{AllocError, Global};
 
 /// What a call answers.
@@ -48,14 +48,6 @@ fn fitting(alloc: Global, rpc: Rpc) -> Result<Rpc, AllocError>
     }
 }
 
-/// The RPC that bytes spell; with any others the test fails.
-fn spelled(alloc: Global, body: &[u8]) -> Result<Rpc, AllocError> {
-    match decode(alloc, body) {
-        Ok(rpc) => Ok(rpc),
-        Err(_) => Err(AllocError),
-    }
-}
-
 /// Makes a router hear an RPC.
 fn listen(
     alloc: Global,
@@ -69,10 +61,6 @@ fn listen(
     match call {
         Call::Hear(from, parts) => {
             let rpc = fitting(alloc, rpc_of(alloc, parts)?)?;
-            Ok(router.hear(PeerNo(from), rpc, now, words))
-        }
-        Call::Read(from, body) => {
-            let rpc = fitting(alloc, spelled(alloc, body)?)?;
             Ok(router.hear(PeerNo(from), rpc, now, words))
         }
         _ => Err(AllocError),
@@ -146,52 +134,12 @@ pub fn once(
         return Err(AllocError);
     }
     match call {
-        Call::Hear(_, _) | Call::Read(_, _) => listen(alloc, router, now, call, words),
+        Call::Hear(_, _) => listen(alloc, router, now, call, words),
         Call::Subscribe(_)
         | Call::Unsubscribe(_)
         | Call::Publish(_, _)
         | Call::Raw(_, _)
         | Call::HangUp(_) => obey(alloc, router, now, call, words),
         _ => turn(router, now, call, words),
-    }
-}
-
-/// Makes one call of a router, which it must not refuse.
-fn allowed(
-    alloc: Global,
-    router: &mut Router,
-    now: Millis,
-    call: Call<'_>,
-    words: &mut SeededWords,
-) -> Result<(), AllocError> {
-    match once(alloc, router, now, call, words)? {
-        Ok(()) => Ok(()),
-        Err(_) => Err(AllocError),
-    }
-}
-
-/// Makes all of several calls of a router except the last one, which it returns, if there is one.
-pub fn all_but_last<'a>(
-    alloc: Global,
-    router: &mut Router,
-    now: Millis,
-    call: Call<'a>,
-    words: &mut SeededWords,
-) -> Result<Option<Call<'a>>, AllocError> {
-    match call {
-        Call::HearEach(first, last, parts) => {
-            for peer in first..last {
-                allowed(alloc, router, now, Call::Hear(peer, parts), words)?;
-            }
-            Ok(Some(Call::Hear(last, parts)))
-        }
-        Call::SubscribeEach(end) => {
-            for number in 0..end {
-                let name = format!(in alloc; "{number}")?;
-                allowed(alloc, router, now, Call::Subscribe(name.as_str()), words)?;
-            }
-            Ok(None)
-        }
-        once => Ok(Some(once)),
     }
 }

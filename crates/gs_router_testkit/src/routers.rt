@@ -5,7 +5,7 @@ ghost use Rattle.gs_base.specs.declared.neighbour.Neighbour.{Neighbour as Neighb
 ghost use Rattle.gs_params.specs.Params.{AreInRange};
 ghost use Rattle.gs_params.specs.Picks.{IsAscending};
 
-use crate::cases::{Case, Kind, Rules};
+use crate::cases::{Case, Kind};
 use bytes::Bytes;
 use gs_base::{Neighbour, PeerNo, Seq, Topic};
 use gs_params::{Params, TopicParams};
@@ -25,33 +25,7 @@ fn app_of(kind: Kind) -> i128
 {
     match kind {
         Kind::Plain | Kind::Dialled => 0,
-        Kind::Distrusted => -50_000_001,
-        Kind::Explicit => -80_000_001,
-        Kind::Praised | Kind::Crowded | Kind::ExplicitPraised => 3_000_000,
-    }
-}
-
-/// Whether a neighbour was dialled.
-fn is_outbound(kind: Kind) -> bool {
-    match kind {
-        Kind::Dialled | Kind::Crowded => true,
-        _ => false,
-    }
-}
-
-/// Whether there is a peering agreement with a neighbour.
-fn is_explicit(kind: Kind) -> bool {
-    match kind {
-        Kind::Explicit | Kind::ExplicitPraised => true,
-        _ => false,
-    }
-}
-
-/// The address of a neighbour: its own, or that of a crowd.
-fn address_of(number: u16, kind: Kind) -> [u8; 2] {
-    match kind {
-        Kind::Crowded => [0, 0],
-        _ => number.to_be_bytes(),
+        Kind::Praised => 3_000_000,
     }
 }
 
@@ -59,11 +33,10 @@ fn neighbour_of(alloc: Global, number: u16, kind: Kind) -> Result<Neighbour, All
     ensures number { IfOk result (λ neighbour. neighbour.peer.0 ≡ number) }
     ensures app { IfOk result (λ neighbour. unsigned_abs neighbour.app ≤ 10 ^ 12) }
 {
-    let address = Bytes::copy_from_slice(alloc, &address_of(number, kind))?;
+    let address = Bytes::copy_from_slice(alloc, &number.to_be_bytes())?;
     Ok(Neighbour {
-        outbound: is_outbound(kind),
+        outbound: matches!(kind, Kind::Dialled),
         app: app_of(kind),
-        explicit: is_explicit(kind),
         ..Neighbour::new(PeerNo(number), address)
     })
 }
@@ -87,30 +60,19 @@ fn neighbours(alloc: Global, count: u16, kinds: &[Kind]) -> Result<Vec<Neighbour
 
 // ---- parameters
 
-/// Returns what payloads begin with.
-fn prefixes(alloc: Global, list: &[&[u8]]) -> Result<Seq<Bytes>, AllocError> {
-    let mut prefixes = Seq::new(alloc);
-    for prefix in list {
-        prefixes.push(Bytes::copy_from_slice(alloc, prefix)?)?;
-    }
-    Ok(prefixes)
-}
-
-/// The parameters of a topic.
-fn topic_params(alloc: Global, rules: &Rules<'_>) -> Result<TopicParams, AllocError> {
+/// The parameters of a topic that rejects payloads with this beginning.
+fn topic_params(alloc: Global, reject: &[u8]) -> Result<TopicParams, AllocError> {
     let mut params = TopicParams::new(alloc);
-    params.factors = rules.factors;
-    params.reject = prefixes(alloc, rules.reject)?;
-    params.ignore = prefixes(alloc, rules.ignore)?;
+    params.reject.push(Bytes::copy_from_slice(alloc, reject)?)?;
     Ok(params)
 }
 
 /// The parameters of topics.
-fn topics(alloc: Global, list: &[Rules<'_>]) -> Result<Seq<(Topic, TopicParams)>, AllocError> {
+fn topics(alloc: Global, list: &[(&str, &[u8])]) -> Result<Seq<(Topic, TopicParams)>, AllocError> {
     let mut topics = Seq::new(alloc);
-    for rules in list {
-        let topic = topic_of(alloc, rules.topic)?;
-        topics.push((topic, topic_params(alloc, rules)?))?;
+    for (name, reject) in list {
+        let topic = topic_of(alloc, name)?;
+        topics.push((topic, topic_params(alloc, reject)?))?;
     }
     Ok(topics)
 }
@@ -120,10 +82,7 @@ fn params_of(alloc: Global, case: &Case<'_>) -> Result<Params, AllocError>
     ensures { IfOk result AreInRange }
 {
     let mut params = Params::new(alloc);
-    params.degrees = case.degrees;
     params.factors = case.factors;
-    params.timing = case.timing;
-    params.flood_publish = case.flood_publish;
     params.topics = topics(alloc, case.topics)?;
     match params.check() {
         Ok(params) => Ok(params),

@@ -1,93 +1,77 @@
 //! RPCs made of the parts that cases name.
-use crate::cases::{Fields, Id, NO_FIELDS, NO_TOPIC};
-use crate::parts::{CasePart, only_control};
+use crate::cases::CasePart;
 use crate::routers::topic_of;
 use bytes::Bytes;
-use gs_base::{Message, MsgId, Rpc, Seq, Shared, SubOpt, Topic};
+use gs_base::{Control, Graft, IHave, IWant, Message, MsgId, Prune, Rpc, Seq, SubOpt, Topic};
 use std::alloc::{AllocError, Global};
 
-/// Returns the topic of this name, if it names one.
-pub fn named(alloc: Global, name: &str) -> Result<Option<Topic>, AllocError> {
-    if name == NO_TOPIC {
+/// The identifiers of the messages with these payloads.
+fn ids_of(alloc: Global, payloads: &[&[u8]]) -> Result<Seq<Bytes>, AllocError> {
+    let mut list = Seq::new(alloc);
+    for payload in payloads {
+        list.push(Bytes::copy_from_slice(alloc, &MsgId::of(payload).0)?)?;
+    }
+    Ok(list)
+}
+
+/// The topic with a name. An empty name stands for an absent topic.
+fn topic_in(alloc: Global, name: &str) -> Result<Option<Topic>, AllocError> {
+    if name.is_empty() {
         return Ok(None);
     }
     Ok(Some(topic_of(alloc, name)?))
 }
 
-fn field(alloc: Global, bytes: Option<&[u8]>) -> Result<Option<Bytes>, AllocError> {
-    match bytes {
-        Some(bytes) => Ok(Some(Bytes::copy_from_slice(alloc, bytes)?)),
-        None => Ok(None),
-    }
-}
-
-fn seldom_field(alloc: Global, bytes: Option<&[u8]>) -> Result<Option<Shared<Bytes>>, AllocError> {
-    match field(alloc, bytes)? {
-        Some(bytes) => Ok(Some(Shared::new(alloc, bytes)?)),
-        None => Ok(None),
-    }
-}
-
-fn id_bytes(alloc: Global, id: Id<'_>) -> Result<Bytes, AllocError> {
-    match id {
-        Id::Of(payload) => Bytes::copy_from_slice(alloc, &MsgId::of(payload).0),
-        Id::Is(bytes) => Bytes::copy_from_slice(alloc, bytes),
-        Id::ShortOf(payload) => Bytes::copy_from_slice(alloc, &MsgId::of(payload).0[..31]),
-        Id::Unknown => Ok(Bytes::new()),
-    }
-}
-
-pub fn ids_of(alloc: Global, ids: &[Id<'_>]) -> Result<Seq<Bytes>, AllocError> {
-    let mut list = Seq::new(alloc);
-    for id in ids {
-        list.push(id_bytes(alloc, *id)?)?;
-    }
-    Ok(list)
-}
-
-fn sub_of(alloc: Global, subscribe: Option<bool>, name: &str) -> Result<SubOpt, AllocError> {
+fn sub_of(alloc: Global, name: &str) -> Result<SubOpt, AllocError> {
     Ok(SubOpt {
-        subscribe,
-        topic: named(alloc, name)?,
+        subscribe: Some(true),
+        topic: topic_in(alloc, name)?,
     })
 }
 
-/// Gives a message these fields.
-fn fill(alloc: Global, message: &mut Message, fields: Fields<'_>) -> Result<(), AllocError> {
-    message.topic = named(alloc, fields.topic)?;
-    message.payload = field(alloc, fields.payload)?;
-    message.origin = seldom_field(alloc, fields.origin)?;
-    message.seqno = seldom_field(alloc, fields.seqno)?;
-    message.signature = seldom_field(alloc, fields.signature)?;
-    message.key = seldom_field(alloc, fields.key)?;
-    Ok(())
-}
-
-fn message_of(alloc: Global, fields: Fields<'_>) -> Result<Message, AllocError> {
+fn message_of(alloc: Global, name: &str, payload: &[u8]) -> Result<Message, AllocError> {
     let mut message = Message::bare();
-    fill(alloc, &mut message, fields)?;
+    message.topic = topic_in(alloc, name)?;
+    message.payload = Some(Bytes::copy_from_slice(alloc, payload)?);
     Ok(message)
 }
 
-/// A message with only a topic and a payload.
-fn bare<'a>(name: &'a str, payload: &'a [u8]) -> Fields<'a> {
-    Fields {
-        topic: name,
-        payload: Some(payload),
-        ..NO_FIELDS
+/// Adds a control message.
+fn control(alloc: Global, control: &mut Control, said: CasePart<'_>) -> Result<(), AllocError> {
+    match said {
+        CasePart::Have(name, payloads) => {
+            let topic = Some(topic_of(alloc, name)?);
+            let ids = ids_of(alloc, payloads)?;
+            control.ihave.push(IHave { topic, ids })
+        }
+        CasePart::Want(payloads) => {
+            let ids = ids_of(alloc, payloads)?;
+            control.iwant.push(IWant { ids })
+        }
+        CasePart::Graft(name) => {
+            let topic = Some(topic_of(alloc, name)?);
+            control.graft.push(Graft { topic })
+        }
+        CasePart::Prune(name, backoff) => {
+            let topic = Some(topic_of(alloc, name)?);
+            control.prune.push(Prune { topic, backoff })
+        }
+        _ => Err(AllocError),
     }
+}
+
+/// The control of an RPC with one control message.
+fn only_control(alloc: Global, said: CasePart<'_>) -> Result<Control, AllocError> {
+    let mut only = Control::empty(alloc);
+    control(alloc, &mut only, said)?;
+    Ok(only)
 }
 
 /// Adds a part to an RPC.
 fn add(alloc: Global, rpc: &mut Rpc, said: CasePart<'_>) -> Result<(), AllocError> {
     match said {
-        CasePart::On(name) => rpc.subs.push(sub_of(alloc, Some(true), name)?),
-        CasePart::Off(name) => rpc.subs.push(sub_of(alloc, Some(false), name)?),
-        CasePart::Sub(name) => rpc.subs.push(sub_of(alloc, None, name)?),
-        CasePart::Message(name, payload) => {
-            rpc.publish.push(message_of(alloc, bare(name, payload))?)
-        }
-        CasePart::Other(fields) => rpc.publish.push(message_of(alloc, fields)?),
+        CasePart::On(name) => rpc.subs.push(sub_of(alloc, name)?),
+        CasePart::Message(name, payload) => rpc.publish.push(message_of(alloc, name, payload)?),
         control => {
             rpc.control = Some(only_control(alloc, control)?);
             Ok(())
@@ -105,11 +89,7 @@ fn add_all(alloc: Global, rpc: &mut Rpc, parts: &[CasePart<'_>]) -> Result<(), A
 
 /// Returns the RPC of these parts. At most one of them is a control message.
 pub fn rpc_of(alloc: Global, parts: &[CasePart<'_>]) -> Result<Rpc, AllocError> {
-    let mut rpc = Rpc {
-        subs: Seq::new(alloc),
-        publish: Seq::new(alloc),
-        control: None,
-    };
+    let mut rpc = Rpc::empty(alloc);
     add_all(alloc, &mut rpc, parts)?;
     Ok(rpc)
 }

@@ -1,5 +1,8 @@
 //! Tests by the crates that they call.
-mod direct;
+mod cache;
 mod ends;
 mod net;
 mod peer;
+mod router;
+mod texts;
+mod workers;

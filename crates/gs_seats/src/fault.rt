@@ -43,6 +43,3 @@ impl<T: Drop> From<AllocFailed<T>> for NetFault {
         NetFault::NoMemory(None)
     }
 }
-
-#[cfg(test)]
-mod tests;

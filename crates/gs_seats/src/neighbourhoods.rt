@@ -64,6 +64,3 @@ impl Neighbourhoods {
         Ok(found)
     }
 }
-
-#[cfg(test)]
-mod tests;

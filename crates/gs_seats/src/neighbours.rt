@@ -65,6 +65,3 @@ fn address_of(alloc: Global, plan: &Plan, peer: PeerNo) -> Result<Bytes, AllocEr
         None => Ok(Bytes::new()),
     }
 }
-
-#[cfg(test)]
-mod tests;

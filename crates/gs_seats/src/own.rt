@@ -118,6 +118,3 @@ fn put_for_both<T: Concerning>(lists: &mut Vec<Vec<T>>, one: T) -> Result<(), Al
     put_if_there(lists, other, one)?;
     Ok(())
 }
-
-#[cfg(test)]
-mod tests;

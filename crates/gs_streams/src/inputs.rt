@@ -40,6 +40,3 @@ pub fn input_too_long(alloc: Global, limits: Limits) -> ScenarioFault
         Err(_) => ScenarioFault::NoMemory,
     }
 }
-
-#[cfg(test)]
-mod tests;

@@ -7,11 +7,9 @@ ghost use Rattle.gs_plan.specs.Limits.{longest_input};
 ghost use Rattle.gs_streams.specs.Streams.{AppendsFront};
 ghost use Rattle.gs_streams.specs.declared.ReadFault.TheVariants.{NoMemory};
 
-mod arguments;
 pub mod fakes;
 mod inputs;
 
-pub use arguments::limits_in;
 use gs_plan::Limits;
 pub use inputs::{input_too_long, plan_from};
 use std::alloc::{AllocError, Global};
@@ -128,6 +126,3 @@ pub fn try_to_write<W: Write>(output: &mut W, line: &str)
 {
     let _ = write_text(output, line.as_bytes());
 }
-
-#[cfg(test)]
-mod tests;

@@ -10,6 +10,3 @@ mod workers;
 pub use fault::WorkerFault;
 pub use stop_flag::{FoundSet, FoundUnset, Raised, StopFlag};
 pub use workers::{Ran, run_all};
-
-#[cfg(test)]
-mod tests;

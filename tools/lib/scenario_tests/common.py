@@ -11,8 +11,8 @@ import tomllib
 from scenario import command
 
 TOP = os.path.realpath(f"{os.path.dirname(__file__)}/../../..")
-# Where the programs are: tools/check_scenarios says it.
-PROGRAMS = {}
+# The program of each command, with the word of the command: tools/check_scenarios says it.
+COMMANDS = {}
 HEAD = 'until = "20 s"\n[[topic]]\nname = "news"\n'
 CONDITIONS = {**os.environ, "GLIBC_TUNABLES": ""}
 
@@ -57,8 +57,8 @@ def plain(text, *words):
 
 
 def by_program(name, text, *words):
-    """What a program prints of a plain scenario."""
-    ran = subprocess.run([PROGRAMS[name], *words], input=text.encode(), capture_output=True, check=False, env=CONDITIONS)
+    """What a command prints of a plain scenario."""
+    ran = subprocess.run([*COMMANDS[name], *words], input=text.encode(), capture_output=True, check=False, env=CONDITIONS)
     assert ran.returncode == 0, ran.stderr.decode() + ran.stdout.decode()
     return ran.stdout.decode()
 

@@ -1,5 +1,6 @@
-"""The commands that take a description instead of a scenario: in a tree whose programs print what they are given."""
+"""The commands that take a description instead of a scenario: in a tree whose program prints what it is given."""
 import os
+import shlex
 import shutil
 import subprocess
 import tempfile
@@ -7,7 +8,7 @@ import unittest
 
 from sweep_runs import NOTHING
 
-from .common import CONDITIONS, PROGRAMS, TOP, called
+from .common import COMMANDS, CONDITIONS, TOP, called
 
 DESCRIPTION = """until = "5 s"
 [network]
@@ -24,6 +25,11 @@ every = "1 s"
 SHELL = "gossip_sim gossip_stats gossip_picture".split()
 
 
+def as_true(name):
+    """A line of a script that runs a true command on what the script is given."""
+    return f'exec {shlex.join(COMMANDS[name])} "$@"'
+
+
 class Wrappers(unittest.TestCase):
     def setUp(self):
         self.folder = tempfile.mkdtemp()
@@ -33,18 +39,21 @@ class Wrappers(unittest.TestCase):
             shutil.copy(f"{TOP}/bin/{it}", f"{self.folder}/bin/{it}")
         shutil.copytree(f"{TOP}/bin/lib", f"{self.folder}/bin/lib")
         with open(f"{self.folder}/crates.txt", "w", encoding="utf-8") as file:
-            file.write("gossip_sim:\ngossip_stats:\ngossip_picture:\ngossip_edit:\ngossip_check:\n")
-        for it in (*SHELL, "gossip_edit"):
-            self.put_program(it, "#!/bin/sh\nexec cat\n")
+            file.write("gossip_sim:\n")
+        self.put_program()
         for name, text in (("it.toml", DESCRIPTION), ("no.toml", DESCRIPTION.replace("ring", "rnig"))):
             with open(f"{self.folder}/{name}", "w", encoding="utf-8") as file:
                 file.write(text)
 
-    def put_program(self, name, script):
-        path = f"{self.folder}/crates/{name}/out/{name}"
+    def put_program(self, **scripts):
+        """Puts a program there which prints what it is given. Words such as `stats` have other scripts."""
+        path = f"{self.folder}/crates/gossip_sim/out/gossip_sim"
         os.makedirs(os.path.dirname(path), exist_ok=True)
         with open(path, "w", encoding="utf-8") as file:
-            file.write(script)
+            file.write("#!/bin/sh\n")
+            for word, script in scripts.items():
+                file.write(f'if [ "${{1-}}" = {word} ]; then\nshift\n{script}\nfi\n')
+            file.write("exec cat\n")
         os.chmod(path, 0o755)
 
     def run_in_tree(self, command, *words, stdin=b""):
@@ -83,7 +92,8 @@ class Wrappers(unittest.TestCase):
 
     def test_a_sweep_of_networks(self):
         # (the stand-in prints what it is given, and so each network has a report of its own)
-        self.put_program("gossip_stats", f'#!/bin/sh\ncat >"{self.folder}/$$.seen"\nexec {PROGRAMS["gossip_stats"]} "$@" <"{self.folder}/$$.seen"\n')
+        seen = f'"{self.folder}/$$.seen"'
+        self.put_program(stats=f"cat >{seen}\n{as_true('gossip_stats')} <{seen}")
         with open(f"{self.folder}/it.toml", "w", encoding="utf-8") as file:
             file.write(DESCRIPTION.replace('"ring"', '"random"\ndegree = 3').replace("count = 4", "count = 20"))
         ended = self.run_in_tree("sweep", "--networks", "4,5", "--columns", "status,messages", "it.toml")
@@ -115,8 +125,7 @@ class Wrappers(unittest.TestCase):
             self.assertEqual(ended, (64, b"", f"sweep: {why}; --help says more\n"))
 
     def test_a_refused_row_has_the_key(self):
-        for it in ("gossip_stats", "gossip_check"):
-            self.put_program(it, f'#!/bin/sh\nexec {PROGRAMS[it]} "$@"\n')
+        self.put_program(stats=as_true("gossip_stats"), check=as_true("gossip_check"))
         with open(f"{self.folder}/it.toml", "a", encoding="utf-8") as file:
             file.write("[params]\nd_low = 7\n")
         words = "scenario refused: 1; `params.d_low` is 7: it must not be above `d`, which is 6"
@@ -125,7 +134,7 @@ class Wrappers(unittest.TestCase):
             self.assertEqual(ended, (1, f'message\n"{words}"\n'.encode(), f"sweep: 1 of 1 runs failed, first the one: {words}\n"))
 
     def test_a_sweep_of_a_description(self):
-        self.put_program("gossip_stats", f'#!/bin/sh\nexec {PROGRAMS["gossip_stats"]} "$@"\n')
+        self.put_program(stats=as_true("gossip_stats"))
         ended = self.run_in_tree("sweep", "--columns", "status,messages", "it.toml")
         # (one a second, from 0 to 5)
         self.assertEqual(ended, (0, b"status,messages\n0,6\n", ""))

@@ -2,12 +2,11 @@
 use bytes::Bytes;
 use gs_base::{
     Message, MsgId, Neighbour, PeerNo, Rpc, Seq, Shared, SubOpt, Text, Topic, clone_of,
-    clone_option, limits_of_topics,
+    clone_option,
 };
 use std::alloc::{AllocError, Global};
 
 mod parts;
-mod sent;
 
 fn topic(alloc: Global) -> Result<Topic, AllocError> {
     Ok(Topic(Bytes::copy_from_slice(alloc, b"news")?))
@@ -116,6 +115,20 @@ fn an_identifier_is_the_digest_of_the_payload(rt: HostRuntime) {
     assert!(rt; MsgId::of(b"") != MsgId(OF_ABC));
 }
 
+/// An identifier whose bytes can be read.
+const ID: [u8; 32] = *b"abcdefghijklmnopqrstuvwxyz012345";
+
+#[test]
+fn bytes_of_an_identifiers_length_are_one(rt: HostRuntime) {
+    assert_eq!(rt; MsgId::from_bytes(&ID), Some(MsgId(ID)));
+    assert_eq!(rt; MsgId::from_exact(&ID), MsgId(ID));
+    assert_eq!(rt; MsgId::from_bytes(b"abc"), None);
+    assert_eq!(rt;
+        MsgId::from_bytes(b"abcdefghijklmnopqrstuvwxyz0123456"),
+        None
+    );
+}
+
 /// A neighbour's clone is the neighbour, and one that was dialled is not one that dialled.
 fn compares_neighbours(alloc: Global) -> Result<bool, AllocError> {
     let dialled = Neighbour {
@@ -171,12 +184,6 @@ fn copies_a_pair(alloc: Global) -> Result<bool, AllocError> {
 fn a_clone_of_a_pair_has_both(rt: HostRuntime) -> Result<(), AllocError> {
     assert!(rt; copies_a_pair(rt.alloc())?);
     Ok(())
-}
-
-/// The limits stand in the contract: that it can be called is all there is to test.
-#[test]
-fn limits_of_topics_hold(_rt: HostRuntime) {
-    limits_of_topics();
 }
 
 /// What is absent in a message and in a subscription has a value.

@@ -8,7 +8,6 @@ use gs_link::{
     open_link, settle,
 };
 use std::alloc::{AllocError, Global};
-use std::fmt::Display;
 use std::sync::Wait;
 use std::test::*;
 
@@ -277,49 +276,5 @@ fn capacities_and_pieces_have_their_sizes(rt: HostRuntime) -> Result<(), Fail> {
         assert_eq!(rt; Item::Piece(bytes).is_sendable(), may, "at {length}");
     }
     assert!(rt; Item::Round(u64::MAX).is_sendable());
-    Ok(())
-}
-
-/// The numbers of what is full and of what is closed.
-fn numbers() -> (u8, u8) {
-    let full = SendRefused::Full(Item::Round(0));
-    let closed = SendRefused::Closed(Item::Round(0));
-    (full.number(), closed.number())
-}
-
-fn reads<T: Display>(alloc: Global, refusal: &T, text: &str) -> Result<bool, AllocError> {
-    let shown = format!(in alloc; "{refusal}")?;
-    Ok(shown.as_str() == text)
-}
-
-#[test]
-fn refusals_have_numbers(rt: HostRuntime) {
-    assert_eq!(rt; LinkFault::NoMemory.number(), 9);
-    assert_eq!(rt; numbers(), (10, 11));
-    assert_eq!(rt; CloseRefused::Full.number(), 10);
-    assert_eq!(rt; CloseRefused::Closed.number(), 11);
-}
-
-#[test]
-fn refusals_have_texts(rt: HostRuntime) -> Result<(), AllocError> {
-    let alloc = rt.alloc();
-    let full = SendRefused::Full(Item::Round(0));
-    assert!(rt;
-        reads(
-            alloc,
-            &LinkFault::NoMemory,
-            "there was no memory for a link"
-        )?
-    );
-    assert!(rt; reads(alloc, &full, "the link is full")?);
-    assert!(rt;
-        reads(
-            alloc,
-            &SendRefused::Closed(Item::Round(0)),
-            "the link is closed"
-        )?
-    );
-    assert!(rt; reads(alloc, &CloseRefused::Full, "the link is full")?);
-    assert!(rt; reads(alloc, &CloseRefused::Closed, "the link is closed")?);
     Ok(())
 }

@@ -1,99 +1,31 @@
-//! A run of two peers. One dials the other.
-use gs_base::Millis;
+//! Runs over links: which worker runs which peer, and what happens where a worker cannot wait.
+ghost use Rattle.std.specs.Prelude.{IfOk};
+ghost use Rattle.gs_plan.specs.Plans.{IsInRange};
+
 use gs_net::run_net;
 use gs_peer::{Gate, NoGate};
-use gs_plan::Limits;
-use gs_report::Finished;
-use gs_rules::{Refusal, RefusedLine};
+use gs_plan::{Limits, Plan};
 use gs_scenario::read_plan;
-use std::alloc::{AllocError, AllocGlobal};
+use gs_seats::NetFault;
+use std::alloc::{Alloc, AllocError, AllocGlobal, Global};
+use std::io;
 use std::random::RandomSource;
 use std::sync::Wait;
 use std::sync::atomic::{AtomicU64, Ordering};
 use std::test::*;
 use std::thread::Threads;
 
-/// Rounds 0 to 5 of 100 milliseconds, and the peers `a` and `b`.
+/// Rounds 0 to 5 of 100 milliseconds, and three peers on two workers.
 const PEERS: &str = "round_ms = 100\nrounds = 5\nworkers = 2\ncapacity = 8\nseed = 1\n\
-    [[topic]]\nname = \"news\"\n[[peer]]\nname = \"a\"\n[[peer]]\nname = \"b\"\n";
+    topic = [{name = \"news\"}]\npeer = [{name = \"a\"}, {name = \"b\"}, {name = \"c\"}]\n";
 
-const A_DIALS_B: &str = "[[dial]]\nfrom = \"a\"\nto = \"b\"\n";
-
-const B_DIALS_A: &str = "[[dial]]\nfrom = \"b\"\nto = \"a\"\n";
-
-/// Both subscribe, `a` publishes `abc` in round 2, and `b` leaves the topic twice.
-const SCRIPT: &str = "\
-    [[do]]\nat = 0\npeer = \"a\"\nwhat = \"subscribe\"\ntopic = \"news\"\n\
-    [[do]]\nat = 0\npeer = \"b\"\nwhat = \"subscribe\"\ntopic = \"news\"\n\
-    [[do]]\nat = 2\npeer = \"a\"\nwhat = \"publish\"\ntopic = \"news\"\nhex = \"616263\"\n\
-    [[do]]\nat = 4\npeer = \"b\"\nwhat = \"unsubscribe\"\ntopic = \"news\"\n\
-    [[do]]\nat = 5\npeer = \"b\"\nwhat = \"unsubscribe\"\ntopic = \"news\"\n";
-
-/// Whether a peer was delivered `abc` on `news` at just these moments.
-fn delivered(life: &Finished, moments: &[u64]) -> bool {
-    let mut left = moments;
-    for entry in life.trace.entries() {
-        for (topic, payload) in entry.delivered() {
-            let [first, rest @ ..] = left else {
-                return false;
-            };
-            let is_abc = topic.0.as_slice() == b"news".as_slice()
-                && payload.as_slice() == b"abc".as_slice();
-            if entry.at().0 != *first || !is_abc {
-                return false;
-            }
-            left = rest;
-        }
-    }
-    left.is_empty()
-}
-
-/// Whether two peers that are joined so have these deliveries, the second refuses to leave the topic
-/// twice, and this many links are whole.
-fn has_deliveries<R>(
-    rt: &R,
-    dial: &str,
-    a: &[u64],
-    b: &[u64],
-    links: u64,
-) -> Result<bool, AllocError>
-where
-    R: Threads + Wait + RandomSource + AllocGlobal + Sync + Send + Copy,
+fn plan(alloc: Global) -> Result<Plan, AllocError>
+    ensures { IfOk result (λ plan. IsInRange plan) }
 {
-    let mut scenario = String::from_str(rt.alloc(), PEERS)?;
-    scenario.push_str(dial)?;
-    scenario.push_str(SCRIPT)?;
-    let Ok(plan) = read_plan(rt.alloc(), Limits::Standard, &scenario) else {
-        return Ok(false);
-    };
-    let Ok(report) = run_net(rt, &plan, &NoGate) else {
-        return Ok(false);
-    };
-    let [(zero, first), (one, second)] = report.peers.as_slice() else {
-        return Ok(false);
-    };
-    let refusal = RefusedLine {
-        at: Millis(500),
-        line: 4,
-        why: Refusal::NotJoined,
-    };
-    Ok(
-        zero.0 == 0
-            && one.0 == 1
-            && report.settled == links
-            && delivered(first, a)
-            && delivered(second, b)
-            && first.refused.as_slice().is_empty()
-            && second.refused.as_slice() == [refusal].as_slice(),
-    )
-}
-
-#[test]
-fn a_message_is_delivered_to_a_neighbour_a_round_later(rt: HostRuntime) -> Result<(), Fail> {
-    assert!(rt; has_deliveries(&rt, A_DIALS_B, &[200], &[300], 2)?);
-    assert!(rt; has_deliveries(&rt, B_DIALS_A, &[200], &[300], 2)?);
-    assert!(rt; has_deliveries(&rt, "", &[200], &[], 0)?);
-    Ok(())
+    match read_plan(alloc, Limits::Standard, PEERS) {
+        Ok(plan) => Ok(plan),
+        Err(_) => Err(AllocError),
+    }
 }
 
 /// Counts the rounds that are begun on worker 0, on worker 1 and on others.
@@ -120,11 +52,7 @@ fn takes_turns<R>(rt: &R) -> Result<bool, AllocError>
 where
     R: Threads + Wait + RandomSource + AllocGlobal + Sync + Send + Copy,
 {
-    let mut scenario = String::from_str(rt.alloc(), PEERS)?;
-    scenario.push_str("[[peer]]\nname = \"c\"\n")?;
-    let Ok(plan) = read_plan(rt.alloc(), Limits::Standard, &scenario) else {
-        return Ok(false);
-    };
+    let plan = plan(rt.alloc())?;
     let turns = Turns {
         first: AtomicU64::new(0),
         second: AtomicU64::new(0),
@@ -142,5 +70,36 @@ where
 #[test]
 fn peers_take_turns_on_workers(rt: HostRuntime) -> Result<(), Fail> {
     assert!(rt; takes_turns(&rt)?);
+    Ok(())
+}
+
+/// A runtime without random bytes, which a thread needs before it drives its peers.
+#[derive(Clone, Copy)]
+struct Unseeded<R>(R);
+
+impl<R: Threads> Threads for Unseeded<R> {}
+
+impl<R: Wait> Wait for Unseeded<R> {}
+
+impl<R: Alloc> Alloc for Unseeded<R> {
+    type A = R::A;
+
+    fn alloc(&self) -> R::A {
+        self.0.alloc()
+    }
+}
+
+impl<R> RandomSource for Unseeded<R> {
+    fn fill_bytes(&self, _buf: &mut [u8]) -> io::Result<()> {
+        Err(io::Error::from(io::ErrorKind::Unsupported))
+    }
+}
+
+#[test]
+fn a_run_without_a_thread_has_no_report(rt: HostRuntime) -> Result<(), AllocError> {
+    let plan = plan(rt.alloc())?;
+    let fault = run_net(&Unseeded(rt), &plan, &NoGate).err();
+    drop(plan);
+    assert_eq!(rt; fault, Some(NetFault::NoThread));
     Ok(())
 }

@@ -8,7 +8,6 @@ ghost use Rattle.gs_params.specs.Params.{AreInRange};
 ghost use Rattle.gs_params.specs.Picks.{IsAscending};
 ghost use Rattle.gs_link.specs.Items.{IsSendable};
 ghost use Rattle.gs_ends.specs.Ends.{has};
-ghost use Rattle.gs_ends.specs.Pairs.{accepted_for, joints_of, taken_from};
 ghost use Rattle.gs_ends.specs.Lists.{accepted_in_lists, joints_in_lists, taken_in_lists};
 ghost use Rattle.gs_rules.specs.Peers.{links_of};
 ghost use Rattle.gs_peer.specs.Task.{CanPoll, HasJoints};
@@ -18,8 +17,8 @@ use futures::Future;
 use futures::task::{Context, Poll};
 use gs_base::{Neighbour, PeerNo};
 use gs_cache::Payloads;
-use gs_ends::{Ends, LinkEnds, ListEnds};
-use gs_link::{Item, LinkRx, LinkTx};
+use gs_ends::{Ends, ListEnds};
+use gs_link::Item;
 use gs_params::{Params, SeededWords};
 use gs_peer::{Assignment, Gate, NoGate, PeerTask, Surroundings};
 use gs_plan::Line;
@@ -27,7 +26,7 @@ use gs_player::Agenda;
 use gs_router::Router;
 use gs_workers::StopFlag;
 use std::alloc::{AllocError, Global};
-use std::sync::{Arc, Mutex, Wait};
+use std::sync::{Arc, Mutex};
 
 /// A peer and its neighbour.
 #[derive(Clone, Copy, Debug)]
@@ -40,12 +39,6 @@ pub struct Pair {
 pub const ONE: Pair = Pair {
     me: PeerNo(1),
     other: PeerNo(2),
-};
-
-/// Peer 2 with neighbour 1.
-pub const TWO: Pair = Pair {
-    me: PeerNo(2),
-    other: PeerNo(1),
 };
 
 /// A neighbour that dialled, at no address.
@@ -266,22 +259,4 @@ impl<F: Future> Future for AtMost<F> {
             Poll::Pending => Poll::Pending,
         }
     }
-}
-
-/// The unused ends of the links to and from a neighbour.
-pub fn links<R: Wait + Drop>(
-    rt: R,
-    alloc: Global,
-    other: PeerNo,
-    tx: LinkTx,
-    rx: LinkRx,
-) -> Result<LinkEnds<R>, AllocError>
-    requires accepted { tx.accepted ≡ [] }
-    requires taken { rx.taken ≡ [] }
-    ensures known { IfOk result (λ ends. has (joints_of ends) other ≡ true) }
-    ensures accepted { IfOk result (λ ends. (q : PeerNoValue) → accepted_for ends q ≡ []) }
-    ensures taken { IfOk result (λ ends. (q : PeerNoValue) → taken_from ends q ≡ []) }
-{
-    let list = vec![in alloc; (other, tx, rx)]?;
-    Ok(LinkEnds::new(rt, list))
 }

@@ -60,26 +60,6 @@ fn control(alloc: Global) -> Result<Control, AllocError> {
     })
 }
 
-/// The lists of control messages, as they are named where they are shown.
-static CONTROL_LISTS: [&str; 4] = ["ihave", "iwant", "graft", "prune"];
-
-/// Control messages with these items in one list, as they are shown.
-pub fn control_text(alloc: Global, wanted: &str, items: &str) -> Result<String, AllocError> {
-    let mut text = String::from_str(alloc, "Control {")?;
-    for list in &CONTROL_LISTS {
-        let comma = if text.as_str() == "Control {" {
-            ""
-        } else {
-            ","
-        };
-        let held = if *list == wanted { items } else { "" };
-        let part = format!(in alloc; "{comma} {list}: Seq {{ items: [{held}] }}")?;
-        text.push_str(part.as_str())?;
-    }
-    text.push_str(" }")?;
-    Ok(text)
-}
-
 fn rpc(alloc: Global) -> Result<Shared<Rpc>, AllocError> {
     let rpc = Rpc {
         subs: pair(alloc, sub(alloc, true)?, sub(alloc, false)?)?,

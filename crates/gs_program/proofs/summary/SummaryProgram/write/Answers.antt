@@ -1,4 +1,4 @@
-use Rattle.std.proofs.Common.{true, false, true≢false, refl, sym, ap}
+use Rattle.std.proofs.Common.{false, true≢false, refl, sym, ap}
 use Rattle.std.specs.Prelude.{None, is_ok}
 use Rattle.std.proofs.KnownBytes.{Keeps-refl}
 use Rattle.gs_seats.specs.declared.fault.NetFault.TheVariants.{NoMemory}

@@ -1,2 +1,0 @@
-mod Options
-mod Orders

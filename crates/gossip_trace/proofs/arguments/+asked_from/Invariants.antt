@@ -1,5 +1,0 @@
-use Rattle.std.proofs.Common.{length}
-use Rattle.gossip_trace.proofs.arguments.+asked_from.Given as goal
-
-abbrev pub decreases-asked_from : goal.decreases-asked_from
-decreases-asked_from l = length l.arguments.now

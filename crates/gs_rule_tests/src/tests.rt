@@ -1,5 +1,0 @@
-//! Tests by the crates that they call.
-mod cache;
-mod mesh;
-mod rules;
-mod score;
