@@ -1,4 +1,4 @@
-"""Cases: scenarios in the folder cases/, and what the programs must print of them. cases/README.md explains the files."""
+"""Cases: scenarios in the folder cases/, and what commands must print of them. cases/README.md explains the files."""
 import difflib
 import json
 import os
@@ -41,7 +41,7 @@ class Case:
         self.expectations = list(self._expectations(comment))
 
     def _expectations(self, comment):
-        """Each file next to the scenario, once; a file that nothing explains is a fault."""
+        """Each file next to the scenario, once. A file that nothing explains is a fault, and so is a line without its file."""
         stem = self.file.removesuffix(".toml")
         folder = os.path.dirname(self.file)
         found = {
@@ -61,12 +61,12 @@ class Case:
         return wanted
 
     def printed(self, expectation, expected):
-        """What the programs print, in the form of the expectation."""
+        """What the command prints, in the form of the expectation."""
         of_kind = {"report": self._report, "trace": self._trace, "edits": self._edits, "runs": self._runs}
         return of_kind.get(expectation.kind, self._output)(expectation, expected)
 
     def _report(self, _expectation, expected):
-        """The report, which each engine must print, with each number of workers and places."""
+        """The report, which each run must print. Where a run prints another text, that text."""
         texts = self.runner.reports(self.file)
         return next((text for text in texts if text != expected), expected)
 
@@ -74,7 +74,7 @@ class Case:
         return self.runner.run(f"gossip_{expectation.kind}", expectation.options, self.runner.scenario(self.file)).text
 
     def _trace(self, expectation, expected):
-        """The lines of a trace, without the first one, and without members that are empty or null."""
+        """The lines of a trace, without the first one, and without members that are null or an empty list or object."""
         text = self._output(expectation, expected)
         lines = text.splitlines()
         if not lines or not lines[0].startswith("{"):
@@ -82,7 +82,7 @@ class Case:
         return "".join(f"{brief_line(line)}\n" for line in lines[1:])
 
     def _runs(self, _expectation, expected):
-        """A command on each line that begins with `$`, and what it prints."""
+        """Each command that follows a `$`, and what it prints."""
         scenario = self.runner.scenario(self.file)
         printed = []
         for line in expected.splitlines():
@@ -94,13 +94,13 @@ class Case:
         return "".join(printed)
 
     def _edits(self, _expectation, expected):
-        """What gossip_check answers to each edit of the scenario. gossip_sim must refuse it with the same first line."""
+        """What gossip_check answers to each edit of the scenario. What it refuses, gossip_sim refuses with the same line."""
         scenario = self.runner.scenario(self.file)
         return "".join(block.printed(self.runner, scenario) for block in blocks_of(expected))
 
 
 def brief(value):
-    """A value of JSON without members that are empty or null."""
+    """A value of JSON without members that are null or an empty list or object."""
     if isinstance(value, list):
         return [brief(it) for it in value]
     if not isinstance(value, dict):
@@ -123,7 +123,8 @@ class Block:
     answer: list
 
     def edited(self, scenario):
-        """The scenario with the edit at its first place; without an old text the new one is the whole scenario."""
+        """The scenario with the edit at its first place. Without an old text, the new text is the whole scenario. None where
+        the old text does not stand in it."""
         old, new = (unescaped("\n".join(it)) for it in (self.old, self.new))
         if not self.old:
             return new + b"\n" if new else new

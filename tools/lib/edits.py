@@ -8,6 +8,7 @@ NAME = re.compile(r"[A-Za-z0-9_-][A-Za-z0-9_.-]*\.edit")
 BAD_NAME = "an edit has a name of letters, digits, _, - and . that ends in .edit"
 VISIBILITY = r"(?:pub(?:\([^)]*\))?\s+)?(?:ghost\s+)?(?:(?:const|async|unsafe)\s+)*"
 ITEM = re.compile(rf"\s*{VISIBILITY}(fn|const|static|impl|enum|struct|trait|mod|type)\b\s*(\w*)")
+OWNER = re.compile(r"impl(?:<[^{]*?>)?\s+(?:\w+::)*(\w+)(?:<[^{]*>)?\s*(?:\{|$|where)")
 
 
 class Unfit(Exception):
@@ -144,6 +145,26 @@ def items_of(changes, folder):
         if text.count(it.old) == 1:
             last = text[: text.index(it.old) + len(it.old)].count("\n")
             yield it.file, item_at(it.file, text.split("\n"), last)
+
+
+def owner_at(lines, item):
+    """The type whose `impl` has a function; nothing for a function of a module, and None where a trait has it."""
+    if not lines[item.line].startswith(" "):
+        return ""
+    above = next((it for it in reversed(lines[: item.line]) if ITEM.match(it) and not it.startswith(" ")), "")
+    found = OWNER.match(above)
+    return found[1] if found and " for " not in above else None
+
+
+def function_of(edit, folder):
+    """The one function of code that an edit changes, by its module or type; None where it changes something else."""
+    if not edit.module:
+        return None
+    lines = text_in(folder, next(iter(edit.files))).split("\n")
+    items = {item for _, item in items_of((it for it in edit.changes() if not it.is_import), folder)}
+    item = items.pop() if len(items) == 1 else None
+    owner = owner_at(lines, item) if item and item.kind == "fn" else None
+    return None if owner is None else f"{owner or edit.module}::{item.name}"
 
 
 def text_of(path):

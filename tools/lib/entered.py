@@ -110,6 +110,10 @@ class Program:
         tests = [name for name, _, kind in (it.rpartition(": ") for it in listed.splitlines()) if kind == "test"]
         return [it for it in tests if self._run_with([it]).returncode]
 
+    def refuse_argument(self):
+        """Runs the program with an argument that is no UTF-8, which it refuses."""
+        self._run_with([b"\xff"])
+
     def _words_of(self, name):
         try:
             with open(f"{self.top}/crates/{self.crate}/{name}", encoding="utf-8") as stream:

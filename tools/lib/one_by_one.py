@@ -1,7 +1,7 @@
 """Tries wrong bodies one after the other: by rt must-fail, or by a check of the module that an edit changes."""
 import re
 
-from edits import Unfit, edited
+from edits import Unfit, edited, function_of
 from failures import Failures
 from ledger import BY_CRATE, BY_MODULE
 from verdicts import say
@@ -21,22 +21,30 @@ def proved_as_it_is(tree, crate, *flags):
     return None if status else said
 
 
-def is_settled_by_module(tree, verdicts, edit):
-    """Tries an edit by a check of its module, and counts it where that shows what became of it."""
+def counts_of_check(tree, edit, word):
+    """What a check of some functions says with an edit in place: how many they are, and how many have a proof."""
     flags = ["--test"] if edit.is_of_tests else []
-    words = ["rt", "check", *flags, "--only", edit.module, "--jobs", "1"]
+    words = ["rt", "check", *flags, "--only", word, "--jobs", "1"]
     with tree.changed(edit.crate, edited(edit, tree.folder_of(edit.crate))):
         _, said = tree.run(f"{edit.crate}.{edit.name}", f"crates/{edit.crate}", *words)
-    wanted, proved = map(int, (COUNTS.findall(said) or [(0, 0)])[-1])
-    if proved < wanted:
-        say(f"{edit.label}: refused by its module")
-        failures = Failures(said)
-        verdicts.refuse(edit, BY_MODULE, failures.are_by_names(failures.failed))
-    elif edit.is_of_tests and wanted:
+    return said, *map(int, (COUNTS.findall(said) or [(0, 0)])[-1])
+
+
+def is_settled_by_module(tree, verdicts, edit):
+    """Tries an edit by a check of its function, or else of its module, and counts it where that shows what became of it."""
+    words = filter(None, [function_of(edit, tree.folder_of(edit.crate)), edit.module])
+    for word in words:
+        said, wanted, proved = counts_of_check(tree, edit, word)
+        if proved < wanted:
+            say(f"{edit.label}: refused by its {'module' if word == edit.module else 'function'}")
+            failures = Failures(said)
+            verdicts.refuse(edit, BY_MODULE, failures.are_by_names(failures.failed))
+            return True
+    if edit.is_of_tests and wanted:
         verdicts.let_through(edit, BY_MODULE)
     elif edit.is_of_tests:
         verdicts.leave(edit, "the check of its module says nothing about it")
-    return proved < wanted or edit.is_of_tests
+    return edit.is_of_tests
 
 
 def settle_by_module(tree, verdicts, edits, is_narrow):

@@ -6,7 +6,8 @@ import itertools
 HEAD = "round_ms = 100\nrounds = 10\nworkers = {}\ncapacity = {}\nseed = 1\n[[topic]]\nname = 'news'\n"
 STEP = 20  # bytes
 PARTS = "the parts of a peer"
-TRACE = "a trace"
+TRACE, CHECK, EDIT = "a trace", "a check", "an edit"
+TEXTS = {TRACE: "the trace", CHECK: "the answer", EDIT: "the changed scenario"}
 # what may become of a read or a write
 MOVES = "fail", "all", "interrupt", "one", "less", "none"
 
@@ -22,6 +23,11 @@ STARVED = "s"
 MOST_TO_START = 16
 NO_THREAD = 2, "", "run refused: 25\n"
 NO_MEMORY = 2, "", "run refused: 24\n"
+# how a check and an edit end that have no memory for what they do
+NO_ANSWER = {
+    CHECK: (2, "32\nthere is not enough memory to read the scenario, or to say what is wrong with it\n", ""),
+    EDIT: (2, "", "edit refused: no memory\n"),
+}
 
 TWO_REPORT = """\
 delivered a 200 news 616263
@@ -70,7 +76,7 @@ TRACED = scenario(1, 8, "ab", ["ab"], do(3, "a", "publish", hex="5a" * 20_000))
 
 
 def rows(parts):
-    """What is run; gs_refusals, where no call fails, writes `parts`. (Of the trace the text is not known here.)"""
+    """What is run; gs_refusals, where no call fails, writes `parts`. (What traces, checks and edits write is not known here.)"""
     for workers, name in (1, "1 worker"), (3, "3 workers"), (0, "no links"):
         text = scenario(workers or 1, 8, "ab", ["ab"])
         yield Row(f"two peers, {name}", text, 0, TWO_REPORT, "", "ab", workers)
@@ -80,6 +86,9 @@ def rows(parts):
     yield Row("a refused scenario", text, 1, "", "scenario refused: 28 seed\n", "ab", 1)
     yield Row(PARTS, "", 0, parts, "", "", 0)
     yield Row(TRACE, TRACED, 0, "", "", "ab", 0)
+    text = scenario(1, 8, "ab", ["ab"])
+    yield Row(CHECK, text, 0, "", "", "ab", 0)
+    yield Row(EDIT, text, 0, "", "", "ab", 0)
 
 
 def sweeps(row):
@@ -87,6 +96,8 @@ def sweeps(row):
     if row.name == PARTS:
         return
     yield Sweep("growth", "all", 0)
+    if row.name in NO_ANSWER:
+        return
     if row.name == TRACE:
         yield from (Sweep("write", how, 0) for how in MOVES)
         return
@@ -240,6 +251,9 @@ def is_right(row, sweep, at, end):
         return end[:3] == (row.status, row.output, row.errors)
     if row.name == TRACE:
         return is_trace_right(row, sweep, end)
+    if row.name in NO_ANSWER:
+        # (the arguments need memory, too)
+        return end[:3] in ((row.status, row.output, row.errors), NO_ANSWER[row.name], NO_MEMORY)
     if sweep.how == "starve" and STARVED not in end.met:
         return False
     return end[:3] in allowed(row, sweep, at, end)
@@ -298,6 +312,8 @@ def asked_of_all(row, sweep, ends):
         yield f"starts are {len(ends)}, workers {row.workers}", len(ends) == row.workers
     if row.name == TRACE and sweep.what == "growth":
         yield "a run is refused after a front of its lines", any(end.status == 2 and end.output for end in ends)
+    if row.name in NO_ANSWER:
+        yield "a run lacks the memory for it", any(end[:3] == NO_ANSWER[row.name] for end in ends)
     if sweep.how == "workers":
         yield "a run refuses growths in two workers", any(met_in_two_workers(end) for end in ends)
 
@@ -309,10 +325,12 @@ def in_short(row, end):
     said = end.errors.strip().replace(row.errors.strip() or "\0", "its own refusal")
     if named(end):
         said = "run refused: 24 PEER"
+    elif end[:3] == NO_ANSWER.get(row.name):
+        said = "no memory for it"
     elif end.status == 2 and end.output:
         said += ", after a front of the lines"
     elif end.status == 0 and not said:
-        said = "the trace" if row.name == TRACE else "the report"
+        said = TEXTS.get(row.name, "the report")
     elif end.status == row.status != 0 and row.errors.startswith(end.errors) and end.errors != row.errors:
         said = "a front of its own refusal"
     return said or "nothing said"

@@ -105,6 +105,7 @@ class TreeCopy:
     def put_edits(self, crate, edits):
         """Puts edits where rt must-fail looks for them."""
         folder = f"{self.folder_of(crate)}/must-fail"
+        shutil.rmtree(folder, ignore_errors=True)
         os.makedirs(folder)
         for it in edits:
             with open(f"{folder}/{it.name}", "w", encoding="utf-8") as stream:

@@ -5,7 +5,7 @@ use Rattle.gs_plan.specs.declared.limits.Limits.{Limits}
 use Rattle.gs_report.specs.Text.{report_text}
 use Rattle.gs_laws.specs.Runs.{AreAlike}
 use Rattle.gs_laws.specs.Scenarios.{DifferInRunning}
-use Rattle.gs_program.specs.declared.program.ExitStatus.TheVariants as ends
+use Rattle.gs_streams.specs.declared.exit_status.ExitStatus.TheVariants as ends
 use Rattle.gs_program.specs.Program.{EndsAs, Reported}
 
 -- Two runs add the same bytes to their outputs. This says nothing about an output with unknown bytes, such as the standard
@@ -34,8 +34,8 @@ AlikeScenariosWriteTheSame =
     (input input' output output' errors errors' : Option (List ℕ))
     (more more' other other' faults faults' : Option (List ℕ))
     (first_needs_threads second_needs_threads : Bool)
-    (mine : EndsAs limits report_text false first_needs_threads ends.Reported input input' output output' errors errors')
-    (theirs : EndsAs others report_text false second_needs_threads ends.Reported more more' other other' faults faults')
+    (mine : EndsAs limits report_text false first_needs_threads ends.Done input input' output output' errors errors')
+    (theirs : EndsAs others report_text false second_needs_threads ends.Done more more' other other' faults faults')
     → DifferInRunning mine.scenario.text theirs.scenario.text
     → (report_text mine.plan mine.report ≡ report_text theirs.plan theirs.report)
     × AddTheSame output output' other other'

@@ -86,7 +86,7 @@ abbrev pub group_of_value : Option (List ℕ) → Option GroupWish
 group_of_value None = None
 group_of_value (Some text) = group_in text
 
--- with the groups that these further options name: None where one names no group, or one that has its name before
+-- with the groups that these further options name: None where one names no group, or where an earlier group has its name
 abbrev pub groups_from : Option (List GroupWish) → List Given → Option (List GroupWish)
 groups_from None given = None
 groups_from (Some groups) [] = Some groups
@@ -160,8 +160,8 @@ wishes_with given (Some groups) (Some s) (Some f) =
       form = f;
     })
 
--- What options ask for: all of a run, as tables, where there are none. None where one of them names no group, or where one
--- would change nothing.
+-- What options ask for: all of a run, as tables, where there are none. None where one names no group, where two exclude
+-- each other, or where one would change nothing.
 abbrev pub wishes_for : List Given → Option Wishes
 wishes_for given = wishes_with given (groups_from (Some []) given) (subject_given given) (form_given given)
 

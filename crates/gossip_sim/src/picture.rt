@@ -127,7 +127,7 @@ fn subject_of(value: Option<&str>) -> Subject<'_>
 }
 
 /// The peers that the value of an option names. Without the option, they are all peers.
-pub fn choice_of(value: Option<&str>) -> Choice<'_>
+pub(crate) fn choice_of(value: Option<&str>) -> Choice<'_>
     ensures { spelled result ≡ option_map (λ text. text.now) value.entry }
 {
     match value {
@@ -136,8 +136,8 @@ pub fn choice_of(value: Option<&str>) -> Choice<'_>
     }
 }
 
-/// Runs the command with these arguments over these streams, and returns the exit status of its process. Where the arguments ask for
-/// a picture, it ends as a run without links does, and its text is that picture.
+/// Runs the command with these arguments over these streams, and returns the exit status of its process.
+/// Where the arguments ask for a picture, it ends as a run without links does, and its text is that picture.
 /// Otherwise it reads no input, writes the usage or a front of it to `errors`, and ends with 64.
 pub fn run<R, W, E>(
     alloc: Global,

@@ -12,10 +12,11 @@ use gs_net::run_net;
 use gs_peer::{Gate, NoGate};
 use gs_plan::{Limits, Plan};
 use gs_program::{
-    ExitStatus, LARGE, OptionRule, Options, PROGRESS, PrintFault, Printer, Program, limits_of,
-    print_whole, refuse_arguments,
+    LARGE, OptionRule, Options, PROGRESS, PrintFault, Printer, Program, limits_of, print_whole,
+    refuse_arguments,
 };
 use gs_report::{Report, report_text};
+use gs_streams::ExitStatus;
 use std::alloc::{AllocGlobal, Global};
 use std::io::{Read, Write};
 use std::process::ExitCode;
@@ -109,7 +110,7 @@ impl Printer for Lines {
     }
 }
 
-/// Runs the program with these arguments over these streams, and returns the exit status of its process. It runs peers over
+/// Runs the command with these arguments over these streams, and returns the exit status of its process. It runs peers over
 /// links, or with `--direct` without links. With `--direct`, it takes the large limits for `--large`, and writes lines about
 /// the run to `errors` for `--progress`. It refuses other arguments: then it reads no input, writes the usage or a front of it to
 /// `errors`, and ends with 64.
@@ -135,7 +136,7 @@ where
     }
 }
 
-/// Runs the program over these streams with peers run in this way, and returns the exit status of its process.
+/// Runs the command over these streams with peers run in this way, and returns the exit status of its process.
 pub fn run_to_exit<T, R, W, E>(
     rt: &T,
     way: Way,

@@ -159,8 +159,8 @@ fn form_in(word: &str) -> Option<Form>
     None
 }
 
-/// Runs the command with these arguments over these streams, and returns the exit status of its process. Where the arguments ask for
-/// something, it ends as a run without links does, and its text has the scores that they ask for.
+/// Runs the command with these arguments over these streams, and returns the exit status of its process.
+/// Where the arguments ask for something, it ends as a run without links does, and its text has the scores that they ask for.
 /// Otherwise it reads no input, writes the usage or a front of it to `errors`, and ends with 64.
 pub fn run<R, W, E>(
     alloc: Global,

@@ -131,8 +131,8 @@ fn written(alloc: Global, form: Option<Form>, sheets: &[Sheet]) -> Result<Vec<u8
     }
 }
 
-/// Runs the command with these arguments over these streams, and returns the exit status of its process. Where the arguments ask for
-/// something, it ends as a run without links does, and its text has the figures that they ask for.
+/// Runs the command with these arguments over these streams, and returns the exit status of its process.
+/// Where the arguments ask for something, it ends as a run without links does, and its text has the figures that they ask for.
 /// Otherwise it reads no input, writes the usage or a front of it to `errors`, and ends with 64.
 pub fn run<R, W, E>(
     alloc: Global,

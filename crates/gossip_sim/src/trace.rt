@@ -76,7 +76,7 @@ impl<'a> Printer for TraceOf<'a> {
 }
 
 /// What a fault of writing a trace means to a printer. A front of the text may have been written before memory ran out.
-pub fn as_printed(fault: TraceFault) -> PrintFault
+pub(crate) fn as_printed(fault: TraceFault) -> PrintFault
     ensures { result ≡ as_printed fault }
 {
     match fault {
@@ -99,7 +99,7 @@ fn wanted_by<'a>(options: &Options<'a>) -> Option<Wanted<'a>>
 }
 
 /// What the value of an option asks for. Without the option, any text will do.
-pub fn wish_for(value: Option<&str>) -> Wish<'_>
+pub(crate) fn wish_for(value: Option<&str>) -> Wish<'_>
     ensures { spelled result ≡ option_map (λ text. text.now) value.entry }
 {
     match value {
@@ -109,7 +109,7 @@ pub fn wish_for(value: Option<&str>) -> Wish<'_>
 }
 
 /// Which rounds the value of `--rounds` asks for. None where it spells no rounds.
-pub fn rounds_of(value: Option<&str>) -> Option<Option<RoundSpan>>
+pub(crate) fn rounds_of(value: Option<&str>) -> Option<Option<RoundSpan>>
     ensures { result ≡ rounds_given (option_map (λ text. text.now) value.entry) }
 {
     match value {
@@ -121,9 +121,9 @@ pub fn rounds_of(value: Option<&str>) -> Option<Option<RoundSpan>>
     }
 }
 
-/// Runs the command with these arguments over these streams, and returns the exit status of its process. Where the arguments ask for
-/// something, it ends as a run without links does, and its text has the lines that they ask for. If it runs out of memory for
-/// the rest of them, a front of the text is on the output.
+/// Runs the command with these arguments over these streams, and returns the exit status of its process.
+/// Where the arguments ask for something, it ends as a run without links does, and its text has the lines that they ask for.
+/// If it runs out of memory for the rest of them, a front of the text is on the output.
 /// Otherwise it reads no input, writes the usage or a front of it to `errors`, and ends with 64.
 pub fn run<R, W, E>(
     alloc: Global,

@@ -6,11 +6,12 @@ use Rattle.gs_plan.specs.declared.plan.Plan.{Plan}
 use Rattle.gs_scenario.specs.declared.fault.ScenarioFault.{ScenarioFault}
 use Rattle.gs_scenario.specs.Refusal.{number_of}
 use Rattle.gs_streams.specs.Inputs.{IsRefusal, IsScenario}
+use Rattle.gs_streams.specs.Statuses.{status_of}
 use Rattle.gs_streams.specs.Streams.{AppendsFront}
 use Rattle.gs_check.specs.declared.answer.Verdict.{Verdict}
 use Rattle.gs_check.specs.declared.answer.Verdict.TheVariants as verdicts
-use Rattle.gs_check.specs.declared.program.ExitStatus.{ExitStatus}
-use Rattle.gs_check.specs.declared.program.ExitStatus.TheVariants as ends
+use Rattle.gs_streams.specs.declared.exit_status.ExitStatus.{ExitStatus}
+use Rattle.gs_streams.specs.declared.exit_status.ExitStatus.TheVariants as ends
 use Rattle.gs_check.specs.FirstLine.{first_line}
 use Rattle.gs_check.specs.Summary.{summary}
 use Rattle.gs_check.specs.Words.{SaysWhy}
@@ -74,20 +75,24 @@ pub record OutputFailed (limits : Limits) (input output output' errors errors' :
   pub text : AppendsFront output output' answer
   pub line : AppendsFront errors errors' (codes "output failed\n")
 
--- what each status says
+-- the end for an answer that is on the output
+abbrev pub end_of : Verdict → ExitStatus
+end_of verdicts.Accepted = ends.Done
+end_of verdicts.Refused = ends.Refused
+end_of verdicts.NoMemory = ends.Unfinished
+
+-- What each end says. An answer is never cut off, and the command has checked its arguments.
 abbrev pub EndsAs : Limits → ExitStatus → (input output output' errors errors' : Option (List ℕ)) → Type 0
-EndsAs limits (ends.Answered verdict) input output output' errors errors' =
-    Answered limits verdict input output output' errors errors'
+EndsAs limits ends.Done input output output' errors errors' =
+    Answered limits verdicts.Accepted input output output' errors errors'
+EndsAs limits ends.Refused input output output' errors errors' =
+    Answered limits verdicts.Refused input output output' errors errors'
+EndsAs limits ends.Unfinished input output output' errors errors' =
+    Answered limits verdicts.NoMemory input output output' errors errors'
+EndsAs limits ends.CutOff input output output' errors errors' = ⊥
 EndsAs limits ends.InputFailed input output output' errors errors' = InputFailed output output' errors errors'
 EndsAs limits ends.OutputFailed input output output' errors errors' = OutputFailed limits input output output' errors errors'
-
--- the status that the process ends with
-abbrev pub status_of : ExitStatus → ℕ
-status_of (ends.Answered verdicts.Accepted) = 0
-status_of (ends.Answered verdicts.Refused) = 1
-status_of (ends.Answered verdicts.NoMemory) = 2
-status_of ends.InputFailed = 3
-status_of ends.OutputFailed = 3
+EndsAs limits ends.WrongArguments input output output' errors errors' = ⊥
 
 -- some end of the program, and the status for it
 pub record EndsSomehow (limits : Limits) (status : ℕ) (input output output' errors errors' : Option (List ℕ)) : Type 0 where

@@ -12,9 +12,9 @@ use Rattle.gs_check.specs.declared.answer.Answer.{Answer}
 use Rattle.gs_check.specs.declared.answer.NoAnswer.{NoAnswer}
 use Rattle.gs_check.specs.declared.answer.NoAnswer.TheVariants as causes
 use Rattle.gs_check.specs.declared.answer.Verdict.TheVariants as verdicts
-use Rattle.gs_check.specs.declared.program.ExitStatus.{ExitStatus}
-use Rattle.gs_check.specs.declared.program.ExitStatus.TheVariants as ends
-use Rattle.gs_check.specs.Program.{Answers, IsRefusalText}
+use Rattle.gs_streams.specs.declared.exit_status.ExitStatus.{ExitStatus}
+use Rattle.gs_streams.specs.declared.exit_status.ExitStatus.TheVariants as ends
+use Rattle.gs_check.specs.Program.{Answers, IsRefusalText, end_of}
 
 -- it is a reading of this input: it has read all of it, or says that it is too long only where it is
 abbrev pub IsReading : Limits → Option (List ℕ) → Result (Vec ℕ Global) ReadFault → Type 0
@@ -47,6 +47,6 @@ AnswersText limits bytes (Err why) = why ≡ causes.NoMemory
 
 -- the program ends as the answer says, or because the output failed
 abbrev pub EndsFor : Result Answer NoAnswer → ExitStatus → Type 0
-EndsFor (Ok answer) status = (status ≡ ends.Answered answer.verdict) ⊎ (status ≡ ends.OutputFailed)
+EndsFor (Ok answer) status = (status ≡ end_of answer.verdict) ⊎ (status ≡ ends.OutputFailed)
 EndsFor (Err causes.InputFailed) status = status ≡ ends.InputFailed
-EndsFor (Err causes.NoMemory) status = (status ≡ ends.Answered verdicts.NoMemory) ⊎ (status ≡ ends.OutputFailed)
+EndsFor (Err causes.NoMemory) status = (status ≡ ends.Unfinished) ⊎ (status ≡ ends.OutputFailed)

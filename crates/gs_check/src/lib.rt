@@ -12,4 +12,4 @@ pub use answer::{
     NO_MEMORY_ANSWER, Verdict, answer_without_memory, no_input_is_accepted_and_refused,
 };
 pub use first_line::plain_places_are_shown_as_they_stand;
-pub use program::{ExitStatus, run};
+pub use program::run;

@@ -1,41 +1,15 @@
 //! The program: what it reads, what it writes and how it ends.
 ghost use Rattle.std.specs.Prelude.{◌≡◌, ◌≤◌, ◌↔◌, ◌⊎◌, Err, IfOk, List, Option, ℕ, length};
-ghost use Rattle.std.specs.Process.{exit_status};
 ghost use Rattle.gs_plan.specs.Limits.{longest_input};
 ghost use Rattle.gs_plan.specs.declared.limits.Limits.{Limits as LimitsValue};
-ghost use Rattle.gs_check.specs.Program.{Answers, EndsAs, status_of};
+ghost use Rattle.gs_check.specs.Program.{Answers, EndsAs, end_of};
 ghost use Rattle.gs_check.specs.Readings.{EndsFor as EndsAfter, IsReading};
 
 use crate::answer::{Answer, NO_MEMORY_ANSWER, NoAnswer, Verdict, answer_after};
 use gs_plan::Limits;
-use gs_streams::{ReadFault, read_input, try_to_write, write_text};
+use gs_streams::{ExitStatus, ReadFault, read_input, try_to_write, write_text};
 use std::alloc::Global;
 use std::io::{Read, Write};
-use std::process::ExitCode;
-
-/// How a run of the program ends.
-#[derive(Clone, Copy, Debug, PartialEq, Eq)]
-pub enum ExitStatus {
-    /// The answer is on the output.
-    Answered(Verdict),
-    /// A read of the input failed, or it was read `MOST_READS` times and had not ended.
-    InputFailed,
-    /// The answer could not be written.
-    OutputFailed,
-}
-
-impl From<ExitStatus> for ExitCode {
-    ghost from_gives = { λ status code. exit_status code ≡ status_of status };
-
-    fn from(status: ExitStatus) -> ExitCode {
-        ExitCode::from(match status {
-            ExitStatus::Answered(Verdict::Accepted) => 0u8,
-            ExitStatus::Answered(Verdict::Refused) => 1,
-            ExitStatus::Answered(Verdict::NoMemory) => 2,
-            ExitStatus::InputFailed | ExitStatus::OutputFailed => 3,
-        })
-    }
-}
 
 /// Reads a scenario within these limits from the input, and writes the answer about it to the output. Where the input or the
 /// output fails, it writes a line about that to `errors`. Where that line can't be written, the status stays the same.
@@ -71,7 +45,7 @@ where
     requires short { IfOk reading (λ bytes. length bytes.items ≤ longest_input limits) }
     ensures failed { (result ≡ ExitStatus.InputFailed) ↔ (reading ≡ Err ReadFault.Failed) }
     ensures no_memory { reading ≡ Err ReadFault.NoMemory
-        → (result ≡ ExitStatus.Answered Verdict.NoMemory) ⊎ (result ≡ ExitStatus.OutputFailed) }
+        → (result ≡ ExitStatus.Unfinished) ⊎ (result ≡ ExitStatus.OutputFailed) }
     ensures ends { (input : Option (List ℕ)) → IsReading limits input reading → EndsAs limits result input
         (W.contents output.old) (W.contents output.new) (E.contents errors.old) (E.contents errors.new) }
 {
@@ -108,7 +82,7 @@ fn tell_answer<W, E>(verdict: Verdict, answer: &[u8], output: &mut W, errors: &m
 where
     W: Write,
     E: Write,
-    ensures end { (result ≡ ExitStatus.Answered verdict) ⊎ (result ≡ ExitStatus.OutputFailed) }
+    ensures end { (result ≡ end_of verdict) ⊎ (result ≡ ExitStatus.OutputFailed) }
     ensures ends { (limits : LimitsValue) (input : Option (List ℕ)) → Answers limits verdict input answer.now
         → EndsAs limits result input
         (W.contents output.old) (W.contents output.new) (E.contents errors.old) (E.contents errors.new) }
@@ -117,5 +91,9 @@ where
         try_to_write(errors, "output failed\n");
         return ExitStatus::OutputFailed;
     }
-    ExitStatus::Answered(verdict)
+    match verdict {
+        Verdict::Accepted => ExitStatus::Done,
+        Verdict::Refused => ExitStatus::Refused,
+        Verdict::NoMemory => ExitStatus::Unfinished,
+    }
 }

@@ -19,8 +19,8 @@ use Rattle.gs_edit.specs.declared.edits.NoChange.{NoChange}
 use Rattle.gs_edit.specs.declared.edits.NoChange.TheVariants as causes
 use Rattle.gs_streams.specs.declared.ReadFault.{ReadFault}
 use Rattle.gs_streams.specs.declared.ReadFault.TheVariants as reads
-use Rattle.gs_edit.specs.declared.program.ExitStatus.{ExitStatus}
-use Rattle.gs_edit.specs.declared.program.ExitStatus.TheVariants as ends
+use Rattle.gs_streams.specs.declared.exit_status.ExitStatus.{ExitStatus}
+use Rattle.gs_streams.specs.declared.exit_status.ExitStatus.TheVariants as ends
 
 -- ---- scenarios
 
@@ -136,8 +136,8 @@ usage_line = codes "usage: gossip_edit KEY=VALUE..\n"
 
 -- ---- ends
 
--- In each end, `input` is what the reader had. `output` and `errors` are what each writer held before, and `output'` and
--- `errors'` what it held after.
+-- For each end: the reader had `input` left to read before, and `input'` after. Each writer held the first text before, and
+-- the second after.
 
 -- a text of the changed scenario is on the output, and nothing more on errors
 pub record Changed (arguments : List (List ℕ)) (input output output' errors errors' : Option (List ℕ)) : Type 0 where
@@ -165,21 +165,27 @@ pub record OutputFailed (arguments : List (List ℕ)) (input output output' erro
   pub front : AppendsFront output output' text
   pub line : AppendsFront errors errors' (codes "output failed\n")
 
--- the arguments are no edits
-pub record WrongArguments (arguments : List (List ℕ)) (output output' errors errors' : Option (List ℕ)) : Type 0 where
-  pub wrong : are_edits arguments ≡ false
-  pub told : Told usage_line output output' errors errors'
+-- The arguments are no edits, and nothing was read. The usage is on errors, or a front of it, and nothing more on the output.
+pub record WrongArguments (arguments : List (List ℕ)) (input input' output output' errors errors' : Option (List ℕ)) : Type 0
+  where
+    pub wrong : are_edits arguments ≡ false
+    pub unread : input' ≡ input
+    pub told : Told usage_line output output' errors errors'
 
--- what each status says
-abbrev pub EndsAs : ExitStatus → List (List ℕ) → (input output output' errors errors' : Option (List ℕ)) → Type 0
-EndsAs ends.Changed arguments input output output' errors errors' = Changed arguments input output output' errors errors'
-EndsAs ends.EditRefused arguments input output output' errors errors' = EditRefused arguments input output output' errors errors'
-EndsAs ends.NoMemory arguments input output output' errors errors' = Told no_memory_line output output' errors errors'
-EndsAs ends.InputFailed arguments input output output' errors errors' = Told input_line output output' errors errors'
-EndsAs ends.OutputFailed arguments input output output' errors errors' =
+-- What each end says. A text is never cut off.
+abbrev pub EndsAs : ExitStatus → List (List ℕ) → (input input' output output' errors errors' : Option (List ℕ)) → Type 0
+EndsAs ends.Done arguments input input' output output' errors errors' =
+    Changed arguments input output output' errors errors'
+EndsAs ends.Refused arguments input input' output output' errors errors' =
+    EditRefused arguments input output output' errors errors'
+EndsAs ends.Unfinished arguments input input' output output' errors errors' =
+    Told no_memory_line output output' errors errors'
+EndsAs ends.CutOff arguments input input' output output' errors errors' = ⊥
+EndsAs ends.InputFailed arguments input input' output output' errors errors' = Told input_line output output' errors errors'
+EndsAs ends.OutputFailed arguments input input' output output' errors errors' =
     OutputFailed arguments input output output' errors errors'
-EndsAs ends.WrongArguments arguments input output output' errors errors' =
-    WrongArguments arguments output output' errors errors'
+EndsAs ends.WrongArguments arguments input input' output output' errors errors' =
+    WrongArguments arguments input input' output output' errors errors'
 
 -- a line is on errors, or a front of it, and the status is the wanted one
 pub record Says (words : List ℕ) (wanted status : ExitStatus) (errors errors' : Option (List ℕ)) : Type 0 where
@@ -190,16 +196,7 @@ pub record Says (words : List ℕ) (wanted status : ExitStatus) (errors errors' 
 -- memory for its line ran out.
 abbrev pub EndsFor : NoChange → List (List ℕ) → ExitStatus → (errors errors' : Option (List ℕ)) → Type 0
 EndsFor (causes.Refused refusal) arguments status errors errors' =
-    Says (refusal_line arguments refusal) ends.EditRefused status errors errors'
-    ⊎ Says no_memory_line ends.NoMemory status errors errors'
+    Says (refusal_line arguments refusal) ends.Refused status errors errors'
+    ⊎ Says no_memory_line ends.Unfinished status errors errors'
 EndsFor causes.InputFailed arguments status errors errors' = Says input_line ends.InputFailed status errors errors'
-EndsFor causes.NoMemory arguments status errors errors' = Says no_memory_line ends.NoMemory status errors errors'
-
--- the status that the process ends with
-abbrev pub status_of : ExitStatus → ℕ
-status_of ends.Changed = 0
-status_of ends.EditRefused = 1
-status_of ends.NoMemory = 2
-status_of ends.InputFailed = 3
-status_of ends.OutputFailed = 3
-status_of ends.WrongArguments = 64
+EndsFor causes.NoMemory arguments status errors errors' = Says no_memory_line ends.Unfinished status errors errors'

@@ -11,4 +11,4 @@ mod program;
 mod reasons;
 
 pub use laws::{a_set_key_holds_its_value, other_keys_stay};
-pub use program::{ExitStatus, run};
+pub use program::run;

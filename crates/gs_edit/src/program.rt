@@ -1,48 +1,16 @@
 //! The program: what it reads, what it writes and how it ends.
-ghost use Rattle.std.specs.Prelude.{◌≡◌, ◌↔◌, ◌⊎◌, Err, List, Option, map, string_bytes, ℕ};
-ghost use Rattle.std.specs.Process.{exit_status};
-ghost use Rattle.gs_edit.specs.Program.{EndsAs, EndsFor, IsChanged, IsNotChanged, IsReading, status_of};
+ghost use Rattle.std.specs.Prelude.{◌≡◌, ◌↔◌, ◌⊎◌, Err, false, List, Option, map, string_bytes, ℕ};
+ghost use Rattle.gs_edit.specs.Keys.{are_edits};
+ghost use Rattle.gs_edit.specs.Program.{EndsAs, EndsFor, IsChanged, IsNotChanged, IsReading};
 
 use crate::change::changed;
 use crate::edits::NoChange;
 use crate::keys::are_edits;
 use crate::reasons::refusal_line;
 use gs_plan::Limits;
-use gs_streams::{ReadFault, read_input, try_to_write, write_text};
+use gs_streams::{ExitStatus, ReadFault, read_input, try_to_write, write_text};
 use std::alloc::Global;
 use std::io::{Read, Write};
-use std::process::ExitCode;
-
-/// How a run of the program ends.
-#[derive(Clone, Copy, Debug, PartialEq, Eq)]
-pub enum ExitStatus {
-    /// The changed scenario is on the output.
-    Changed,
-    /// The scenario can't be read, or can't be changed in the way that the arguments ask for.
-    EditRefused,
-    /// Out of memory for the changed scenario, or for the line of a refusal.
-    NoMemory,
-    /// A read of the input failed, or the input had not ended after `MOST_READS` reads.
-    InputFailed,
-    /// The changed scenario could not be written.
-    OutputFailed,
-    /// There is no argument, or one without an equals sign.
-    WrongArguments,
-}
-
-impl From<ExitStatus> for ExitCode {
-    ghost from_gives = { λ status code. exit_status code ≡ status_of status };
-
-    fn from(status: ExitStatus) -> ExitCode {
-        ExitCode::from(match status {
-            ExitStatus::Changed => 0u8,
-            ExitStatus::EditRefused => 1,
-            ExitStatus::NoMemory => 2,
-            ExitStatus::InputFailed | ExitStatus::OutputFailed => 3,
-            ExitStatus::WrongArguments => 64,
-        })
-    }
-}
 
 /// What is written where the arguments are no edits.
 pub const USAGE: &str = "usage: gossip_edit KEY=VALUE..\n";
@@ -65,7 +33,8 @@ where
     R: Read,
     W: Write,
     E: Write,
-    ensures { EndsAs result (map string_bytes arguments.now) (R.remaining input.old)
+    ensures misused { are_edits (map string_bytes arguments.now) ≡ false → result ≡ ExitStatus.WrongArguments }
+    ensures ends { EndsAs result (map string_bytes arguments.now) (R.remaining input.old) (R.remaining input.new)
         (W.contents output.old) (W.contents output.new) (E.contents errors.old) (E.contents errors.new) }
 {
     if !are_edits(arguments) {
@@ -89,10 +58,10 @@ where
     E: Write,
     ensures failed { (result ≡ ExitStatus.InputFailed) ↔ (reading ≡ Err ReadFault.Failed) }
     ensures too_long { reading ≡ Err ReadFault.TooLong
-        → (result ≡ ExitStatus.EditRefused) ⊎ (result ≡ ExitStatus.NoMemory) }
-    ensures no_memory { reading ≡ Err ReadFault.NoMemory → result ≡ ExitStatus.NoMemory }
-    ensures ends { (input : Option (List ℕ)) → IsReading input reading
-        → EndsAs result (map string_bytes arguments.now) input
+        → (result ≡ ExitStatus.Refused) ⊎ (result ≡ ExitStatus.Unfinished) }
+    ensures no_memory { reading ≡ Err ReadFault.NoMemory → result ≡ ExitStatus.Unfinished }
+    ensures ends { (input input' : Option (List ℕ)) → IsReading input reading
+        → EndsAs result (map string_bytes arguments.now) input input'
         (W.contents output.old) (W.contents output.new) (E.contents errors.old) (E.contents errors.new) }
 {
     match changed(alloc, arguments, reading) {
@@ -105,17 +74,17 @@ fn write_changed<W, E>(text: &str, output: &mut W, errors: &mut E) -> ExitStatus
 where
     W: Write,
     E: Write,
-    ensures end { (result ≡ ExitStatus.Changed) ⊎ (result ≡ ExitStatus.OutputFailed) }
-    ensures ends { (arguments : List (List ℕ)) → (input : Option (List ℕ))
+    ensures end { (result ≡ ExitStatus.Done) ⊎ (result ≡ ExitStatus.OutputFailed) }
+    ensures ends { (arguments : List (List ℕ)) → (input input' : Option (List ℕ))
         → IsChanged arguments input text.now
-        → EndsAs result arguments input
+        → EndsAs result arguments input input'
         (W.contents output.old) (W.contents output.new) (E.contents errors.old) (E.contents errors.new) }
 {
     if write_text(output, text.as_bytes()).is_err() {
         try_to_write(errors, "output failed\n");
         return ExitStatus::OutputFailed;
     }
-    ExitStatus::Changed
+    ExitStatus::Done
 }
 
 /// Says why there is no changed scenario.
@@ -126,19 +95,20 @@ fn tell_cause<E: Write>(
     errors: &mut E,
 ) -> ExitStatus
     ensures end { EndsFor cause (map string_bytes arguments.now) result (E.contents errors.old) (E.contents errors.new) }
-    ensures ends { (input : Option (List ℕ)) → (output : Option (List ℕ))
+    ensures ends { (input input' output : Option (List ℕ))
         → IsNotChanged (map string_bytes arguments.now) input cause
-        → EndsAs result (map string_bytes arguments.now) input output output (E.contents errors.old) (E.contents errors.new) }
+        → EndsAs result (map string_bytes arguments.now) input input' output output
+        (E.contents errors.old) (E.contents errors.new) }
 {
     match cause {
         NoChange::Refused(refusal) => match refusal_line(alloc, arguments, refusal) {
             Ok(line) => {
                 try_to_write(errors, line.as_str());
-                ExitStatus::EditRefused
+                ExitStatus::Refused
             }
             Err(_) => {
                 try_to_write(errors, NO_MEMORY);
-                ExitStatus::NoMemory
+                ExitStatus::Unfinished
             }
         },
         NoChange::InputFailed => {
@@ -147,7 +117,7 @@ fn tell_cause<E: Write>(
         }
         NoChange::NoMemory => {
             try_to_write(errors, NO_MEMORY);
-            ExitStatus::NoMemory
+            ExitStatus::Unfinished
         }
     }
 }

@@ -6,10 +6,11 @@ use Rattle.gs_direct.specs.Stages.{HasShownAll, HasShownFirst, HasShownMore}
 use Rattle.gs_direct.specs.declared.stages.Stage.{Stage}
 use Rattle.gs_plan.specs.declared.limits.Limits.{Limits}
 use Rattle.gs_plan.specs.declared.plan.Plan.{Plan}
-use Rattle.gs_program.specs.Program.{EndsAs, status_of}
+use Rattle.gs_program.specs.Program.{EndsAs}
 use Rattle.gs_program.specs.Progress.{AddsLines, EndsShowing, ExitsShowing, HasProgress, HasToldSince, ProgressStart, TellsAll, has_begun, has_ended, if_wanted, progress_line}
-use Rattle.gs_program.specs.declared.program.ExitStatus.{ExitStatus}
-use Rattle.gs_program.specs.declared.program.ExitStatus.TheVariants.{RunRefused}
+use Rattle.gs_streams.specs.declared.exit_status.ExitStatus.{ExitStatus}
+use Rattle.gs_streams.specs.declared.exit_status.ExitStatus.TheVariants.{Unfinished}
+use Rattle.gs_streams.specs.Statuses.{status_of}
 use Rattle.gs_report.specs.declared.report.Report.{Report}
 use Rattle.gs_seats.specs.Reports.{IsReport}
 use Rattle.gs_seats.specs.declared.fault.NetFault.{NetFault}
@@ -94,7 +95,7 @@ module _ {T S : Type 0} (has_shown : T → S → List Stage → Type 0) (old new
   progress_made (Err fault) shown stopped = of_first stopped
 
 -- a program that ends as after a run had one without a fault
-pub ran_whole : (X : NetFault → Type 0) (ran : Result Report NetFault) (status : ExitStatus) → IfErr ran (λ fault. (status ≡ RunRefused) × X fault) → has_ended status ≡ true → is_ok ran ≡ true
+pub ran_whole : (X : NetFault → Type 0) (ran : Result Report NetFault) (status : ExitStatus) → IfErr ran (λ fault. (status ≡ Unfinished) × X fault) → has_ended status ≡ true → is_ok ran ≡ true
 ran_whole X (Ok report) status fault ended = refl
 ran_whole X (Err why) status fault ended = absurd (true≢false (sym ended ∙ ap has_ended fault.0))
 

@@ -5,7 +5,7 @@ use Rattle.gs_plan.specs.declared.plan.Plan.{Plan}
 use Rattle.gs_plan.specs.Plans.{IsInRange}
 use Rattle.gs_scenario.specs.declared.fault.ScenarioFault.{ScenarioFault}
 use Rattle.gs_streams.specs.Inputs.{IsRefusal, IsScenario}
-use Rattle.gs_program.specs.declared.program.ExitStatus.{ExitStatus}
+use Rattle.gs_streams.specs.declared.exit_status.ExitStatus.{ExitStatus}
 use Rattle.gs_program.specs.Endings.{GoesOn, GoesOnWith, IsPlanned}
 
 planned_of : (limits : Limits) (text : List ℕ) (planned : Result Plan ScenarioFault) → IfOk planned (λ plan. IsScenario limits (Some text) plan) → IfOk planned (λ plan. IsInRange plan) → IfErr planned (IsRefusal limits text) → IsPlanned limits text planned

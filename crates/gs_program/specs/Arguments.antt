@@ -2,8 +2,8 @@
 use Rattle.std.specs.Prelude.{◌≡◌, ℕ, List, Option, codes}
 use Rattle.std.specs.Io.KnownBytes.{Keeps}
 use Rattle.gs_streams.specs.Streams.{AppendsFront}
-use Rattle.gs_program.specs.declared.program.ExitStatus.TheVariants.{RunRefused}
-use Rattle.gs_program.specs.Program.{status_of}
+use Rattle.gs_streams.specs.declared.exit_status.ExitStatus.TheVariants.{Unfinished}
+use Rattle.gs_streams.specs.Statuses.{status_of}
 
 -- the status for wrong arguments, as in sysexits.h (EX_USAGE)
 abbrev pub wrong_arguments : ℕ
@@ -15,7 +15,7 @@ no_memory = codes "run refused: 24\n"
 
 -- the status in that case, which is that of a refused run
 abbrev pub refused : ℕ
-refused = status_of RunRefused
+refused = status_of Unfinished
 
 -- this line is on errors, or a front of it, and the status is the wanted one
 pub record IsRefusedSo (line : List ℕ) (wanted status : ℕ) (errors errors' : Option (List ℕ)) : Type 0 where

@@ -1,4 +1,4 @@
--- How a program ends that takes options and prints a text about a run.
+-- How a command ends if it takes options and prints a text about a run.
 use Rattle.std.specs.Prelude.{ℕ, Bool, true, false, List, codes, Option, Some, None}
 use Rattle.gs_plan.specs.declared.limits.Limits.{Limits}
 use Rattle.gs_plan.specs.declared.limits.Limits.TheVariants.{Standard, Large}
@@ -20,14 +20,14 @@ limits_given given = limits_for (has_option given (codes "--large"))
 abbrev pub progress_given : List Given → Bool
 progress_given given = has_option given (codes "--progress")
 
--- the two options that each such program takes
+-- the two options of each such command
 abbrev pub large : Rule
 large = once (codes "--large")
 
 abbrev pub progress : Rule
 progress = once (codes "--progress")
 
--- for a program that is called in this way, and writes this text for what is asked, in parts or as a whole
+-- for a command that is called in this way, and writes this text for what is asked, in parts or as a whole
 module _ {W : Type 0} (usage : List ℕ) (text_of : W → Plan → Report → List ℕ) (in_parts : Bool) where
   -- how it ends with these options, if they ask for something
   abbrev pub EndsWished : List Given → Option W → (status : ℕ) (input input' output output' errors errors' : Option (List ℕ))

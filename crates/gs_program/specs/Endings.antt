@@ -10,8 +10,8 @@ use Rattle.gs_streams.specs.declared.ReadFault.{ReadFault}
 use Rattle.gs_streams.specs.declared.ReadFault.TheVariants as reads
 use Rattle.gs_streams.specs.Inputs.{IsRefusal, IsScenario, input_too_long}
 use Rattle.gs_streams.specs.Streams.{AppendsFront}
-use Rattle.gs_program.specs.declared.program.ExitStatus.{ExitStatus}
-use Rattle.gs_program.specs.declared.program.ExitStatus.TheVariants as ends
+use Rattle.gs_streams.specs.declared.exit_status.ExitStatus.{ExitStatus}
+use Rattle.gs_streams.specs.declared.exit_status.ExitStatus.TheVariants as ends
 use Rattle.gs_seats.specs.declared.fault.NetFault.TheVariants as faults
 use Rattle.gs_program.specs.declared.printer.PrintFault.{PrintFault}
 use Rattle.gs_program.specs.declared.printer.PrintFault.TheVariants as prints
@@ -25,7 +25,7 @@ use Rattle.gs_program.specs.Program.{TellsFault, TellsRefusal}
 -- scenario ends the program as such, and the line of its refusal is on errors.
 abbrev pub GoesOn : Result Plan ScenarioFault → Result Plan ExitStatus → (errors errors' : Option (List ℕ)) → Type 0
 GoesOn (Ok plan) result errors errors' = (result ≡ Ok plan) × (errors' ≡ errors)
-GoesOn (Err fault) result errors errors' = (result ≡ Err ends.ScenarioRefused) × TellsRefusal fault errors errors'
+GoesOn (Err fault) result errors errors' = (result ≡ Err ends.Refused) × TellsRefusal fault errors errors'
 
 -- How the program ends where an input was not read to its end. Only `Failed` ends it as a failed input, and each other fault
 -- as a refused scenario.
@@ -52,12 +52,12 @@ pub record GoesOnWith (limits : Limits) (text : List ℕ) (result : Result Plan 
 -- how the program ends where a text was not printed to its end
 abbrev pub EndsUnprinted : Plan → PrintFault → ExitStatus → (errors errors' : Option (List ℕ)) → Type 0
 EndsUnprinted plan prints.NoMemory status errors errors' =
-    (status ≡ ends.RunRefused) × TellsFault plan (faults.NoMemory None) errors errors'
+    (status ≡ ends.Unfinished) × TellsFault plan (faults.NoMemory None) errors errors'
 EndsUnprinted plan prints.CutOff status errors errors' =
-    (status ≡ ends.TextRefused) × AppendsFront errors errors' (codes "run refused: 24\n")
+    (status ≡ ends.CutOff) × AppendsFront errors errors' (codes "run refused: 24\n")
 EndsUnprinted plan prints.WriteFailed status errors errors' =
     (status ≡ ends.OutputFailed) × AppendsFront errors errors' (codes "output failed\n")
 
 abbrev pub EndsPrinted : {T : Type 0} → Plan → Result T PrintFault → ExitStatus → (errors errors' : Option (List ℕ)) → Type 0
-EndsPrinted plan (Ok done) status errors errors' = (status ≡ ends.Reported) × (errors' ≡ errors)
+EndsPrinted plan (Ok done) status errors errors' = (status ≡ ends.Done) × (errors' ≡ errors)
 EndsPrinted plan (Err fault) status errors errors' = EndsUnprinted plan fault status errors errors'

@@ -9,13 +9,14 @@ use Rattle.gs_plan.specs.declared.plan.Plan.{Plan}
 use Rattle.gs_seats.specs.declared.fault.NetFault.{NetFault}
 use Rattle.gs_seats.specs.declared.fault.NetFault.TheVariants as faults
 use Rattle.gs_report.specs.declared.report.Report.{Report}
-use Rattle.gs_program.specs.declared.program.ExitStatus.{ExitStatus}
-use Rattle.gs_program.specs.declared.program.ExitStatus.TheVariants as ends
+use Rattle.gs_streams.specs.declared.exit_status.ExitStatus.{ExitStatus}
+use Rattle.gs_streams.specs.declared.exit_status.ExitStatus.TheVariants as ends
 use Rattle.gs_scenario.specs.Refusal.{refusal_text}
 use Rattle.gs_seats.specs.Faults.{number_of}
 use Rattle.gs_report.specs.Text.{name_of}
 use Rattle.gs_seats.specs.Reports.{IsReport}
 use Rattle.gs_streams.specs.Inputs.{IsRefusal, IsScenario}
+use Rattle.gs_streams.specs.Statuses.{status_of}
 use Rattle.gs_streams.specs.Streams.{AppendsFront}
 
 abbrev pub refusal_line : ScenarioFault → List ℕ
@@ -84,15 +85,6 @@ pub record InputFailed (output output' errors errors' : Option (List ℕ)) : Typ
   pub line : AppendsFront errors errors' (codes "input failed\n")
   pub silent : Keeps output output'
 
--- the status that the process ends with
-abbrev pub status_of : ExitStatus → ℕ
-status_of ends.Reported = 0
-status_of ends.ScenarioRefused = 1
-status_of ends.RunRefused = 2
-status_of ends.TextRefused = 2
-status_of ends.InputFailed = 3
-status_of ends.OutputFailed = 3
-
 -- for a program that takes scenarios within these limits, and writes this text about a report
 module _ (limits : Limits) (text_of : Plan → Report → List ℕ) where
   -- nothing of the scenario is left to read; the whole text about its run is on the output, and nothing more on errors
@@ -127,20 +119,21 @@ module _ (limits : Limits) (text_of : Plan → Report → List ℕ) where
 
 -- for a program that takes scenarios within these limits, and writes this text, in parts or as a whole
 module _ (limits : Limits) (text_of : Plan → Report → List ℕ) (in_parts : Bool) where
-  -- what each status says, for runs that need threads or runs that need none
+  -- What each end says, for runs that need threads or runs that need none. The command has checked its arguments.
   abbrev pub EndsAs : (needs_threads : Bool) → ExitStatus → (input input' output output' errors errors' : Option (List ℕ))
       → Type 0
-  EndsAs needs ends.Reported input input' output output' errors errors' =
+  EndsAs needs ends.Done input input' output output' errors errors' =
       Reported limits text_of input input' output output' errors errors'
-  EndsAs needs ends.ScenarioRefused input input' output output' errors errors' =
+  EndsAs needs ends.Refused input input' output output' errors errors' =
       ScenarioRefused limits input output output' errors errors'
-  EndsAs needs ends.RunRefused input input' output output' errors errors' =
+  EndsAs needs ends.Unfinished input input' output output' errors errors' =
       RunRefused limits needs input output output' errors errors'
-  EndsAs needs ends.TextRefused input input' output output' errors errors' =
+  EndsAs needs ends.CutOff input input' output output' errors errors' =
       (in_parts ≡ true) × TextRefused limits text_of input output output' errors errors'
   EndsAs needs ends.InputFailed input input' output output' errors errors' = InputFailed output output' errors errors'
   EndsAs needs ends.OutputFailed input input' output output' errors errors' =
       OutputFailed limits text_of input output output' errors errors'
+  EndsAs needs ends.WrongArguments input input' output output' errors errors' = ⊥
 
   -- the process ends with the status of an end, and the streams are as that end says
   pub record EndsWith (needs_threads : Bool) (status : ℕ) (input input' output output' errors errors' : Option (List ℕ))

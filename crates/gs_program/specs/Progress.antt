@@ -6,14 +6,15 @@ use Rattle.gs_direct.specs.Stages.{AreFirstStages, AreStages}
 use Rattle.gs_direct.specs.declared.stages.Stage.{Stage}
 use Rattle.gs_plan.specs.declared.limits.Limits.{Limits}
 use Rattle.gs_plan.specs.declared.plan.Plan.{Plan}
-use Rattle.gs_program.specs.Program.{EndsAs, EndsWith, status_of}
-use Rattle.gs_program.specs.declared.program.ExitStatus.{ExitStatus}
-use Rattle.gs_program.specs.declared.program.ExitStatus.TheVariants as ends
+use Rattle.gs_program.specs.Program.{EndsAs, EndsWith}
+use Rattle.gs_streams.specs.declared.exit_status.ExitStatus.{ExitStatus}
+use Rattle.gs_streams.specs.declared.exit_status.ExitStatus.TheVariants as ends
 use Rattle.gs_report.specs.declared.finished.Finished.{Finished}
 use Rattle.gs_report.specs.declared.report.Report.{Report}
 use Rattle.gs_seats.specs.Reports.{IsReport}
 use Rattle.gs_seats.specs.Rounds.{trace_of}
 use Rattle.gs_streams.specs.Inputs.{IsScenario}
+use Rattle.gs_streams.specs.Statuses.{status_of}
 use Rattle.gs_streams.specs.Streams.{AppendsFront}
 
 -- ---- lines
@@ -74,21 +75,23 @@ pub record HasProgress (wanted : Bool) (plan : Plan) (ended : Bool) (errors erro
 
 -- a program that ends so has begun to run its scenario
 abbrev pub has_begun : ExitStatus → Bool
-has_begun ends.Reported = true
-has_begun ends.ScenarioRefused = false
-has_begun ends.RunRefused = true
-has_begun ends.TextRefused = true
+has_begun ends.Done = true
+has_begun ends.Refused = false
+has_begun ends.Unfinished = true
+has_begun ends.CutOff = true
 has_begun ends.InputFailed = false
 has_begun ends.OutputFailed = true
+has_begun ends.WrongArguments = false
 
 -- a program that ends so has run its scenario to the end
 abbrev pub has_ended : ExitStatus → Bool
-has_ended ends.Reported = true
-has_ended ends.ScenarioRefused = false
-has_ended ends.RunRefused = false
-has_ended ends.TextRefused = true
+has_ended ends.Done = true
+has_ended ends.Refused = false
+has_ended ends.Unfinished = false
+has_ended ends.CutOff = true
 has_ended ends.InputFailed = false
 has_ended ends.OutputFailed = true
+has_ended ends.WrongArguments = false
 
 -- A run has added its lines to errors. Without a run, nothing was added.
 abbrev pub AddsLines : (was_run : Bool) → Limits → (ended : Bool) → (input errors errors' : Option (List ℕ)) → Type 0

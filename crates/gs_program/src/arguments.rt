@@ -3,7 +3,7 @@ ghost use Rattle.std.specs.Prelude.{◌≡◌, ◌≢◌};
 ghost use Rattle.std.specs.Process.{exit_status};
 ghost use Rattle.gs_program.specs.Arguments.{IsRefusedSo, no_memory, refused, wrong_arguments};
 
-use gs_streams::try_to_write;
+use gs_streams::{ExitStatus, try_to_write};
 use std::alloc::AllocGlobal;
 use std::env::{self, Env};
 use std::io::{self, ErrorKind, Write};
@@ -27,7 +27,7 @@ pub fn refuse_arguments<E: Write>(errors: &mut E, usage: &str) -> ExitCode
     ensures { IsRefusedSo usage.now wrong_arguments (exit_status result) (E.contents errors.old) (E.contents errors.new) }
 {
     try_to_write(errors, usage);
-    ExitCode::from(64)
+    ExitCode::from(ExitStatus::WrongArguments)
 }
 
 /// Refuses arguments that could not be read. Where memory ran out for them, it writes that, or a front of it, and returns
@@ -41,7 +41,7 @@ pub fn refuse_unread<E: Write>(cause: ErrorKind, errors: &mut E, usage: &str) ->
 {
     if cause == ErrorKind::OutOfMemory {
         try_to_write(errors, "run refused: 24\n");
-        return ExitCode::from(2);
+        return ExitCode::from(ExitStatus::Unfinished);
     }
     refuse_arguments(errors, usage)
 }

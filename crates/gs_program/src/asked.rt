@@ -1,4 +1,4 @@
-//! The options that each program takes that runs a scenario.
+//! Options that several commands take.
 ghost use Rattle.std.specs.Prelude.{◌≡◌};
 ghost use Rattle.gs_program.specs.Asked.{limits_for, limits_given, progress_given};
 ghost use Rattle.gs_program.specs.Options.{options_of};

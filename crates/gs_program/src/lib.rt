@@ -13,8 +13,8 @@ mod telling;
 
 pub use arguments::{arguments_of, refuse_arguments, refuse_unread};
 pub use asked::{LARGE, PROGRESS, limits_of, program_with, summary_with};
-pub use options::{GivenOption, MOST_GIVEN, OptionRule, Options, options_come_in_any_order};
+pub use options::{GivenOption, MOST_GIVEN, OptionRule, Options, look_ups_ignore_the_order};
 pub use printer::{PrintFault, Printer, print_whole};
-pub use program::{ExitStatus, Program};
+pub use program::Program;
 pub use progress::Progress;
 pub use summary::{Summarizer, SummaryProgram};

@@ -58,7 +58,7 @@ impl<'a> Options<'a> {
 
 /// Two adjacent options with different names may change places: what `has` and `value` find stays the same. The law is only
 /// about its definitions, and its function does nothing.
-pub fn options_come_in_any_order()
+pub fn look_ups_ignore_the_order()
     ensures { OrderIsFree }
 {}
 
@@ -76,7 +76,8 @@ fn given_from<'a>(
     options: Options<'a>,
     arguments: &'a [String],
 ) -> Option<Options<'a>>
-    ensures { option_map options_of result ≡ given_from (map rule_of rules.now) (Some (options_of options.entry)) (map string_bytes arguments.now) }
+    ensures { option_map options_of result
+        ≡ given_from (map rule_of rules.now) (Some (options_of options.entry)) (map string_bytes arguments.now) }
 {
     match arguments {
         [] => Some(options),
@@ -127,7 +128,8 @@ fn with_given<'a>(
     options: Options<'a>,
     option: GivenOption<'a>,
 ) -> Option<Options<'a>>
-    ensures { option_map options_of result ≡ with_given (map rule_of rules.now) (options_of options.entry) (given_of option.entry) }
+    ensures { option_map options_of result
+        ≡ with_given (map rule_of rules.now) (options_of options.entry) (given_of option.entry) }
 {
     let most = most_for(rules, option.name, option.value.is_some());
     if times(options.given.as_slice(), option.name) < most && !options.given.is_full() {

@@ -9,7 +9,7 @@ ghost use Rattle.gs_streams.specs.Inputs.{IsScenario};
 ghost use Rattle.gs_report.specs.declared.report.Report.{Report as ReportValue};
 ghost use Rattle.gs_program.specs.Endings.{EndsPrinted, EndsUnprinted};
 ghost use Rattle.gs_program.specs.Printing.{Prints, StopsPrinting};
-ghost use Rattle.gs_program.specs.Program.{EndsAs, MayMeet, TellsFault, status_of};
+ghost use Rattle.gs_program.specs.Program.{EndsAs, MayMeet, TellsFault};
 ghost use Rattle.gs_program.specs.Progress.{EndsShowing, ExitsShowing, HasProgress, has_begun};
 
 use crate::printer::{PrintFault, Printer};
@@ -20,44 +20,11 @@ use gs_direct::run_direct;
 use gs_plan::{Limits, Plan};
 use gs_report::Report;
 use gs_seats::NetFault;
-use gs_streams::{read_input, try_to_write};
+use gs_streams::{ExitStatus, read_input, try_to_write};
 use std::alloc::Global;
 use std::io::{Read, Write};
 use std::mem;
 use std::process::ExitCode;
-
-/// How a run of a program ends.
-#[derive(Clone, Copy, Debug, PartialEq, Eq)]
-pub enum ExitStatus {
-    /// The text is on the output.
-    Reported,
-    /// The scenario is refused. A line on `errors`, or a front of it, says so.
-    ScenarioRefused,
-    /// The run met a fault, or memory ran out for the text about it. No field says which, and no clause says that either
-    /// happened.
-    RunRefused,
-    /// Out of memory for the rest of the text. A front of the text is on the output. By the clause, that may be all of it.
-    TextRefused,
-    /// A read of the input failed, or it was read `MOST_READS` times and had not ended. No field says which, and no clause
-    /// says that either happened.
-    InputFailed,
-    /// A write of the text failed, or took no bytes. A front of the text is on the output. By the clause, that may be all of
-    /// it.
-    OutputFailed,
-}
-
-impl From<ExitStatus> for ExitCode {
-    ghost from_gives = { λ status code. exit_status code ≡ status_of status };
-
-    fn from(status: ExitStatus) -> ExitCode {
-        ExitCode::from(match status {
-            ExitStatus::Reported => 0u8,
-            ExitStatus::ScenarioRefused => 1,
-            ExitStatus::RunRefused | ExitStatus::TextRefused => 2,
-            ExitStatus::InputFailed | ExitStatus::OutputFailed => 3,
-        })
-    }
-}
 
 /// A program that runs a scenario, and writes a text about the run.
 #[derive(Drop)]
@@ -162,7 +129,7 @@ impl<P: Printer> Program<P> {
         E: Write,
         requires in_range { IsInRange plan.now }
         requires report { IfOk ran (IsReport plan.now) }
-        ensures fault { IfErr ran (λ fault. (result ≡ ExitStatus.RunRefused)
+        ensures fault { IfErr ran (λ fault. (result ≡ ExitStatus.Unfinished)
             × TellsFault plan.now fault (E.contents errors.old) (E.contents errors.new)) }
         ensures begun { has_begun result ≡ true }
         ensures ends { (needs : Bool) → IfErr ran (MayMeet needs)
@@ -180,7 +147,7 @@ impl<P: Printer> Program<P> {
             }
             Err(fault) => {
                 tell_fault(self.alloc, errors, plan, fault);
-                ExitStatus::RunRefused
+                ExitStatus::Unfinished
             }
         }
     }
@@ -202,7 +169,7 @@ impl<P: Printer> Program<P> {
             (E.contents errors.old) (E.contents errors.new) }
     {
         match printed {
-            Ok(()) => ExitStatus::Reported,
+            Ok(()) => ExitStatus::Done,
             Err(fault) => self.tell_unprinted(plan, fault, errors),
         }
     }
@@ -221,11 +188,11 @@ impl<P: Printer> Program<P> {
         match fault {
             PrintFault::NoMemory => {
                 tell_fault(self.alloc, errors, plan, NetFault::NoMemory(None));
-                ExitStatus::RunRefused
+                ExitStatus::Unfinished
             }
             PrintFault::CutOff => {
                 try_to_write(errors, "run refused: 24\n");
-                ExitStatus::TextRefused
+                ExitStatus::CutOff
             }
             PrintFault::WriteFailed => {
                 try_to_write(errors, "output failed\n");

@@ -5,11 +5,10 @@ ghost use Rattle.gs_program.specs.Program.{TellsRefusal};
 ghost use Rattle.gs_program.specs.Endings.{EndsUnread, GoesOn, GoesOnWith};
 ghost use Rattle.gs_program.specs.Progress.{has_begun};
 
-use crate::program::ExitStatus;
 use crate::telling::tell_refusal;
 use gs_plan::{Limits, Plan};
 use gs_scenario::ScenarioFault;
-use gs_streams::{ReadFault, input_too_long, plan_from, try_to_write};
+use gs_streams::{ExitStatus, ReadFault, input_too_long, plan_from, try_to_write};
 use std::alloc::Global;
 use std::io::Write;
 
@@ -77,9 +76,9 @@ fn refuse<E: Write>(
     fault: &ScenarioFault,
     errors: &mut E,
 ) -> Result<Plan, ExitStatus>
-    ensures end { result ≡ Err ExitStatus.ScenarioRefused }
+    ensures end { result ≡ Err ExitStatus.Refused }
     ensures line { TellsRefusal fault.now (E.contents errors.old) (E.contents errors.new) }
 {
     tell_refusal(alloc, errors, fault);
-    Err(ExitStatus::ScenarioRefused)
+    Err(ExitStatus::Refused)
 }

@@ -12,14 +12,13 @@ ghost use Rattle.gs_program.specs.Program.{EndsAs};
 ghost use Rattle.gs_program.specs.Progress.{EndsShowing, ExitsShowing, HasProgress, has_begun};
 ghost use Rattle.gs_program.specs.Summaries.{IsSummary};
 
-use crate::program::ExitStatus;
 use crate::progress::Progress;
 use crate::reading::plan_after;
 use crate::telling::tell_fault;
 use gs_direct::Gauge;
 use gs_plan::{Limits, Plan};
 use gs_seats::NetFault;
-use gs_streams::{read_input, try_to_write, write_text};
+use gs_streams::{ExitStatus, read_input, try_to_write, write_text};
 use std::alloc::{AllocError, Global};
 use std::io::{Read, Write};
 use std::process::ExitCode;
@@ -125,7 +124,7 @@ impl<S: Summarizer> SummaryProgram<S> {
             Ok(text) => self.write_summary(plan, &text, output, errors),
             Err(_) => {
                 tell_fault(self.alloc, errors, plan, NetFault::NoMemory(None));
-                ExitStatus::RunRefused
+                ExitStatus::Unfinished
             }
         }
     }
@@ -161,7 +160,7 @@ impl<S: Summarizer> SummaryProgram<S> {
             (W.contents output.old) (W.contents output.new) (E.contents errors.old) (E.contents errors.new) }
     {
         match write_text(output, text) {
-            Ok(()) => ExitStatus::Reported,
+            Ok(()) => ExitStatus::Done,
             Err(_) => {
                 try_to_write(errors, "output failed\n");
                 ExitStatus::OutputFailed

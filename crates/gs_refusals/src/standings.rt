@@ -39,6 +39,7 @@ struct Reading {
     deficit: (u64, u64),
     invalid: (u64, u64),
     misbehaviour: (u64, u64),
+    decayed: u64,
     missing: u64,
 }
 
@@ -50,6 +51,7 @@ fn told_of(scores: &Scores, peer: PeerNo, topic: &Topic) -> Reading {
         deficit: scores.stored(peer, topic, Kind::Deficit),
         invalid: scores.stored(peer, topic, Kind::Invalid),
         misbehaviour: scores.stored_misbehaviour(peer),
+        decayed: scores.misbehaviour(peer),
         missing: scores.missing(peer, topic, Millis(5_000)),
     }
 }

@@ -25,8 +25,6 @@ fn is_due(trace: &Trace, now: Millis) -> bool
     trace.last_moment().0 <= now.0
 }
 
-// ---- what is heard
-
 /// Whether an RPC fits a frame.
 fn fits(alloc: Global, rpc: &Rpc) -> Result<bool, AllocError>
     ensures { IfOk result (λ is_short. is_short ≡ true → codec.fits rpc.now ≡ true) }
@@ -66,8 +64,6 @@ fn listen(
         _ => Err(AllocError),
     }
 }
-
-// ---- what is done
 
 /// Returns the act of a call, which must be one of the router's own user. With any other call the test fails.
 pub fn act_of(alloc: Global, call: Call<'_>) -> Result<Act, AllocError> {

@@ -22,9 +22,6 @@ abbrev pub wishes_of : Wanted → Wishes
 wishes_of w =
     record { peer = spelled w.peer; neighbour = spelled w.neighbour; rounds = w.rounds; form = w.form }
 
-abbrev pub no_wish : Wishes
-no_wish = record { peer = None; neighbour = None; rounds = None; form = None }
-
 -- the name that an option asks for, if any, belongs to the peer with this number
 abbrev pub has_name : Option (List ℕ) → Plan → PeerNo → Bool
 has_name wish plan q = suits (same_bytes (name_of plan q)) wish

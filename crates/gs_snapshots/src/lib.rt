@@ -28,4 +28,4 @@ pub use scores::write_scores;
 pub use snapshot::{OnTopic, Snapshot};
 pub use summary::Summary;
 pub use summary_writer::write_summary;
-pub use wanted::{Form, Wanted, all_scores};
+pub use wanted::{Form, Wanted};

@@ -1,7 +1,7 @@
 //! Which scores are reported, and how.
 ghost use Rattle.std.specs.Prelude.{◌≡◌};
 ghost use Rattle.gs_trace.specs.Wanted.{spelled};
-ghost use Rattle.gs_snapshots.specs.Wishes.{has_name, is_in_rounds, no_wish, wishes_of};
+ghost use Rattle.gs_snapshots.specs.Wishes.{has_name, is_in_rounds, wishes_of};
 
 use gs_base::PeerNo;
 use gs_plan::Plan;
@@ -28,18 +28,6 @@ pub enum Form {
     Json,
     /// CSV: a row for each part.
     Csv,
-}
-
-/// Returns the options that report all scores, as JSON Lines.
-pub fn all_scores<'a>() -> Wanted<'a>
-    ensures { wishes_of result ≡ no_wish }
-{
-    Wanted {
-        peer: Wish::Any,
-        neighbour: Wish::Any,
-        rounds: None,
-        form: None,
-    }
 }
 
 /// Says whether the name that an option asks for, if any, belongs to the peer with this number.

@@ -1,4 +1,4 @@
-//! Reads a whole input, reads the plan that its bytes describe, and writes a whole text.
+//! Reads a whole input, reads the plan that its bytes describe, writes a whole text, and says how a program ends.
 #![tactic(auto)]
 
 ghost use Rattle.std.specs.Prelude.{◌≡◌, ◌≤◌, ◌<◌, length, IfOk, IfSome, IsErrOf, List, OnErr, OnOk, ℕ};
@@ -7,9 +7,11 @@ ghost use Rattle.gs_plan.specs.Limits.{longest_input};
 ghost use Rattle.gs_streams.specs.Streams.{AppendsFront};
 ghost use Rattle.gs_streams.specs.declared.ReadFault.TheVariants.{NoMemory};
 
+mod exit_status;
 pub mod fakes;
 mod inputs;
 
+pub use exit_status::ExitStatus;
 use gs_plan::Limits;
 pub use inputs::{input_too_long, plan_from};
 use std::alloc::{AllocError, Global};

@@ -30,4 +30,4 @@ pub use lines::write_trace;
 pub use pages::{write_full, write_page};
 pub use spans::rounds_in;
 pub use texts::{Shown, push_code, push_list, push_number, push_peer, push_quoted};
-pub use wanted::{RoundSpan, Wanted, Wish, all_lines};
+pub use wanted::{RoundSpan, Wanted, Wish};

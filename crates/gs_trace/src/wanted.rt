@@ -3,7 +3,7 @@ ghost use Rattle.std.specs.Prelude.{◌≡◌, ◌&&◌};
 ghost use Rattle.gs_trace.specs.Events.{event_word, refused_word};
 ghost use Rattle.gs_trace.specs.Lines.Told.{Did, Refused};
 ghost use Rattle.gs_trace.specs.Wanted.{is_about, is_among, is_event, is_in_rounds, is_line_about, is_of_peer, is_wanted};
-ghost use Rattle.gs_trace.specs.Wanted.{lies_in, no_wish, suits, wishes_of};
+ghost use Rattle.gs_trace.specs.Wanted.{lies_in, suits, wishes_of};
 
 use crate::events::event_word;
 use crate::topics::{entry_names, line_names};
@@ -44,18 +44,6 @@ pub struct RoundSpan {
     pub first: u64,
     /// The last one. If it is below the first, the span has no round.
     pub last: u64,
-}
-
-/// Returns the options that ask for all lines.
-pub fn all_lines<'a>() -> Wanted<'a>
-    ensures { wishes_of result ≡ no_wish }
-{
-    Wanted {
-        peer: Wish::Any,
-        topic: Wish::Any,
-        rounds: None,
-        events: Wish::Any,
-    }
 }
 
 /// Whether the line of an entry is wanted.

@@ -224,7 +224,8 @@ fn no_groups<'a>() -> ArrayVec<Named<'a>, MOST_GROUPS>
 /// With the groups that these further options name. None where one names no group, or where another has its name. It calls
 /// itself once for each option.
 fn groups_from<'a>(groups: Groups<'a>, given: &[GivenOption<'a>]) -> Option<Groups<'a>>
-    ensures { option_map (λ list. map group_of list.items) result ≡ groups_from (Some (map group_of groups.entry.items)) (map given_of given.now) }
+    ensures { option_map (λ list. map group_of list.items) result
+        ≡ groups_from (Some (map group_of groups.entry.items)) (map given_of given.now) }
 {
     match given {
         [] => Some(groups),
@@ -251,7 +252,8 @@ fn group_of_value(value: Option<&str>) -> Option<Named<'_>>
 
 /// With one more group. None where there is no group or no room for it, or where another has its name.
 fn with_group<'a>(groups: Groups<'a>, group: Option<Named<'a>>) -> Option<Groups<'a>>
-    ensures { option_map (λ list. map group_of list.items) result ≡ with_group (map group_of groups.entry.items) (option_map group_of group.entry) }
+    ensures { option_map (λ list. map group_of list.items) result
+        ≡ with_group (map group_of groups.entry.items) (option_map group_of group.entry) }
 {
     match group {
         None => None,
@@ -260,7 +262,8 @@ fn with_group<'a>(groups: Groups<'a>, group: Option<Named<'a>>) -> Option<Groups
 }
 
 fn adding<'a>(groups: Groups<'a>, group: Named<'a>) -> Option<Groups<'a>>
-    ensures { option_map (λ list. map group_of list.items) result ≡ adding (map group_of groups.entry.items) (group_of group.entry) }
+    ensures { option_map (λ list. map group_of list.items) result
+        ≡ adding (map group_of groups.entry.items) (group_of group.entry) }
 {
     if groups.is_full() || is_taken(groups.as_slice(), group.name) {
         return None;

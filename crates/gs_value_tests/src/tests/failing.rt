@@ -1,5 +1,6 @@
 //! Checks and edits of scenarios, where the input or the output fails, or the input is no text.
 use gs_plan::Limits;
+use gs_streams::ExitStatus;
 use gs_streams::fakes::{Broken, Narrow};
 use std::alloc::{AllocError, Global};
 
@@ -36,7 +37,7 @@ fn checks(alloc: Global, room: usize) -> bool {
         &mut output,
         &mut errors,
     );
-    ended == gs_check::ExitStatus::OutputFailed
+    ended == ExitStatus::OutputFailed
         && is_front(&output.taken, room, ANSWER)
         && errors.as_slice() == b"output failed\n".as_slice()
 }
@@ -47,7 +48,7 @@ fn fails_to_check(alloc: Global, rest: &[u8]) -> bool {
     let mut errors = Vec::new(alloc);
     let mut input = Broken { rest };
     let ended = gs_check::run(alloc, Limits::Large, &mut input, &mut output, &mut errors);
-    ended == gs_check::ExitStatus::InputFailed
+    ended == ExitStatus::InputFailed
         && output.is_empty()
         && errors.as_slice() == b"input failed\n".as_slice()
 }
@@ -74,7 +75,7 @@ fn edits(alloc: Global, arguments: &[String], room: usize) -> bool {
     let mut errors = Vec::new(alloc);
     let mut input = b"a = 1".as_slice();
     let ended = gs_edit::run(alloc, arguments, &mut input, &mut output, &mut errors);
-    ended == gs_edit::ExitStatus::OutputFailed
+    ended == ExitStatus::OutputFailed
         && is_front(&output.taken, room, CHANGED)
         && errors.as_slice() == b"output failed\n".as_slice()
 }
@@ -85,7 +86,7 @@ fn fails_to_edit(alloc: Global, arguments: &[String], rest: &[u8]) -> bool {
     let mut errors = Vec::new(alloc);
     let mut input = Broken { rest };
     let ended = gs_edit::run(alloc, arguments, &mut input, &mut output, &mut errors);
-    ended == gs_edit::ExitStatus::InputFailed
+    ended == ExitStatus::InputFailed
         && output.is_empty()
         && errors.as_slice() == b"input failed\n".as_slice()
 }
@@ -96,7 +97,7 @@ fn is_refused(alloc: Global, arguments: &[String], bytes: &[u8]) -> bool {
     let mut errors = Vec::new(alloc);
     let mut input = bytes;
     let ended = gs_edit::run(alloc, arguments, &mut input, &mut output, &mut errors);
-    ended == gs_edit::ExitStatus::EditRefused
+    ended == ExitStatus::Refused
         && output.is_empty()
         && errors.as_slice() == b"edit refused: the scenario is no TOML\n".as_slice()
 }
@@ -107,7 +108,7 @@ fn reads_nothing(alloc: Global) -> bool {
     let mut errors = Vec::new(alloc);
     let mut input = b"a = 1".as_slice();
     let ended = gs_edit::run(alloc, &[], &mut input, &mut output, &mut errors);
-    ended == gs_edit::ExitStatus::WrongArguments && output.is_empty() && input.len() == 5
+    ended == ExitStatus::WrongArguments && output.is_empty() && input.len() == 5
 }
 
 #[test]

@@ -3,7 +3,7 @@ use Rattle.std.specs.Prelude.{None, is_ok}
 use Rattle.std.proofs.KnownBytes.{Keeps-refl}
 use Rattle.gs_seats.specs.declared.fault.NetFault.TheVariants.{NoMemory}
 use Rattle.gs_program.specs.Progress.{has_ended}
-use Rattle.gs_program.specs.declared.program.ExitStatus.TheVariants.{RunRefused}
+use Rattle.gs_streams.specs.declared.exit_status.ExitStatus.TheVariants.{Unfinished}
 use Rattle.gs_program.proofs.Noted.{ends_after, progress_stays}
 use Rattle.gs_program.proofs.summary.SummaryProgram.write.Goals as goal
 
@@ -17,7 +17,7 @@ returns-in-Ok-clause-ends g c = λ input input' scenario at_end.
 pub returns-in-Err-clause-ends : goal.returns-in-Err-clause-ends
 returns-in-Err-clause-ends g c = λ input input' scenario at_end.
     let self = c.args.self.now in
-    ends_after self.limits (g.S.Summarizer.text self.summarizer) false false self.progress RunRefused input input' _ _ _ _ _ c.args.plan.now refl scenario
+    ends_after self.limits (g.S.Summarizer.text self.summarizer) false false self.progress Unfinished input input' _ _ _ _ _ c.args.plan.now refl scenario
     (progress_stays self.progress c.args.plan.now (is_ok c.summarize.result) false _ _ (λ never. absurd (true≢false (sym never))) c.summarize.ensures.progress)
     (record {
       plan = c.args.plan.now;

@@ -1,0 +1,136 @@
+//! How neighbours stand: what concerns no neighbour, and parameters that no scenario has.
+ghost use Rattle.std.specs.Prelude.{IfOk};
+ghost use Rattle.gs_params.specs.Params.{AreInRange};
+
+use bytes::Bytes;
+use gs_base::{Mark, Millis, Neighbour, PeerNo, Topic};
+use gs_params::{Params, TopicParams};
+use gs_score::{Kind, Rulebook, Scores};
+use std::alloc::{AllocError, Global};
+
+fn topic(name: &'static [u8]) -> Topic {
+    Topic(Bytes::from_static(name))
+}
+
+/// Parameters of topics, each with a weight of invalid messages.
+fn params(alloc: Global, rows: &[(&'static [u8], i64)]) -> Result<Params, AllocError>
+    ensures { IfOk result AreInRange }
+{
+    let mut params = Params::new(alloc);
+    for (name, weight) in rows {
+        let mut one = TopicParams::new(alloc);
+        one.factors.w4 = *weight;
+        params.topics.push((topic(*name), one))?;
+    }
+    match params.check() {
+        Ok(params) => Ok(params),
+        Err(_) => Err(AllocError),
+    }
+}
+
+/// The scores of neighbour 1.
+fn scores(alloc: Global) -> Result<Scores, AllocError> {
+    let params = params(alloc, &[(b"t", -1_000_000)])?;
+    let neighbours = [Neighbour::new(PeerNo(1), Bytes::from_static(b"x"))];
+    let scores = Scores::new(alloc, &params, &neighbours);
+    drop(params);
+    drop(neighbours);
+    scores
+}
+
+/// Whether a peer has no score, nothing kept, and no topic.
+fn has_nothing(alloc: Global, scores: &Scores, peer: PeerNo) -> Result<bool, AllocError> {
+    let t = topic(b"t");
+    let parts = scores.topic_parts(peer, &t, Millis(5_000));
+    let counts = [
+        scores.misbehaviour(peer),
+        scores.counter(peer, &t, Kind::First),
+        scores.counter(peer, &t, Kind::Deficit),
+        scores.missing(peer, &t, Millis(5_000)),
+    ];
+    let topics = scores.topics(alloc, peer)?.len();
+    Ok(
+        counts == [0; 4]
+            && parts.topic_score == 0
+            && scores.score(peer, Millis(5_000)) == 0
+            && topics == 0,
+    )
+}
+
+/// Whether a peer has nothing after a mark, and after peer 4 is pruned and shut out.
+fn is_without_effect(alloc: Global, mark: &Mark, peer: PeerNo) -> Result<bool, AllocError> {
+    let mut scores = scores(alloc)?;
+    if scores.accepts(mark) {
+        scores.apply(mark)?;
+    }
+    scores.prune(PeerNo(4), &topic(b"t"));
+    scores.shut_out(PeerNo(4));
+    has_nothing(alloc, &scores, peer)
+}
+
+#[test]
+fn what_concerns_no_neighbour_changes_nothing(rt: HostRuntime) -> Result<(), AllocError> {
+    let stranger = Mark::Misbehaviour(PeerNo(4));
+    for peer in [1u16, 4] {
+        assert!(rt; is_without_effect(rt.alloc(), &stranger, PeerNo(peer))?);
+    }
+    Ok(())
+}
+
+/// What a deficit of this amount adds to a neighbour's counter.
+fn counted(alloc: Global, amount: i128) -> Result<u64, AllocError> {
+    let mut scores = scores(alloc)?;
+    let mark = Mark::Deficit(PeerNo(1), topic(b"t"), amount);
+    if scores.accepts(&mark) {
+        scores.apply(&mark)?;
+    }
+    Ok(scores.counter(PeerNo(1), &topic(b"t"), Kind::Deficit))
+}
+
+#[test]
+fn a_deficit_counts_from_0_to_a_million(rt: HostRuntime) -> Result<(), AllocError> {
+    for (amount, count) in [
+        (-1, 0),
+        (2_250_000, 2_250_000),
+        (10_000_000_000_000, 1_000_000_000_000),
+    ] {
+        assert_eq!(rt; counted(rt.alloc(), amount)?, count);
+    }
+    Ok(())
+}
+
+/// The weight of a topic's invalid messages.
+fn weight(rulebook: &Rulebook, name: &'static [u8]) -> i64 {
+    rulebook.of(&topic(name)).factors.w4
+}
+
+/// The weights that are found for topics `a`, `b` and `c`, and whether any topic weighs.
+fn found(alloc: Global, rows: &[(&'static [u8], i64)]) -> Result<([i64; 3], bool), AllocError> {
+    let params = params(alloc, rows)?;
+    let rulebook = Rulebook::new(alloc, &params)?;
+    let found = (
+        [
+            weight(&rulebook, b"a"),
+            weight(&rulebook, b"b"),
+            weight(&rulebook, b"c"),
+        ],
+        rulebook.any_weighs(),
+    );
+    drop(rulebook);
+    drop(params);
+    Ok(found)
+}
+
+/// Topics and their weights. Topic `a` comes three times.
+static REPEATED: [(&[u8], i64); 4] = [(b"a", -1), (b"a", -2), (b"b", -3), (b"a", -4)];
+
+static WITHOUT_WEIGHT: [(&[u8], i64); 2] = [(b"a", 0), (b"b", 0)];
+
+#[test]
+fn the_first_parameters_of_a_topic_count(rt: HostRuntime) -> Result<(), AllocError> {
+    let alloc = rt.alloc();
+    assert_eq!(rt; found(alloc, &[])?, ([0; 3], false));
+    assert_eq!(rt; found(alloc, &WITHOUT_WEIGHT)?, ([0; 3], false));
+    assert_eq!(rt; found(alloc, &REPEATED)?, ([-1, -3, 0], true));
+    Ok(())
+}
