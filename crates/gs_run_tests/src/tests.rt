@@ -5,5 +5,4 @@ mod net;
 mod peer;
 mod router;
 mod texts;
-mod traces;
 mod workers;
