@@ -13,13 +13,19 @@ options = large ∷ []
 abbrev pub usage : List ℕ
 usage = codes "usage: gossip_check [--large]\n"
 
-abbrev pub EndsGiven : Option (List Given) → (status : ℕ) (input input' output output' errors errors' : Option (List ℕ)) → Type 0
+abbrev pub EndsGiven :
+    Option (List Given)
+    → (status : ℕ) (input input' output output' errors errors' : Option (List ℕ))
+    → Type 0
 EndsGiven None status input input' output output' errors errors' =
     IsMisused usage status input input' output output' errors errors'
 EndsGiven (Some given) status input input' output output' errors errors' =
     EndsSomehow (limits_given given) status input output output' errors errors'
 
 -- how it ends with these arguments
-abbrev pub EndsFor : List (List ℕ) → (status : ℕ) (input input' output output' errors errors' : Option (List ℕ)) → Type 0
+abbrev pub EndsFor :
+    List (List ℕ)
+    → (status : ℕ) (input input' output output' errors errors' : Option (List ℕ))
+    → Type 0
 EndsFor arguments status input input' output output' errors errors' =
     EndsGiven (options_given options arguments) status input input' output output' errors errors'

@@ -52,7 +52,10 @@ abbrev pub printed : Wishes → Plan → Report → List ℕ
 printed w plan report = picture plan report (topic_in plan w.topic) w.among
 
 -- how it ends with these arguments
-abbrev pub EndsFor : List (List ℕ) → (status : ℕ) (input input' output output' errors errors' : Option (List ℕ)) → Type 0
+abbrev pub EndsFor :
+    List (List ℕ)
+    → (status : ℕ) (input input' output output' errors errors' : Option (List ℕ))
+    → Type 0
 EndsFor arguments status input input' output output' errors errors' =
     EndsAsked usage printed false wishes_for (options_given options arguments) status
     input input' output output' errors errors'

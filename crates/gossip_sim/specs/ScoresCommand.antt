@@ -1,5 +1,6 @@
 -- The command `scores`: what its options ask for, and how it ends.
-use Rattle.std.specs.Prelude.{ℕ, Bool, true, ◌&&◌, if◌then◌else◌, is_some, List, [], ◌∷◌, ◌++◌, codes, Option, Some, None, option_map}
+use Rattle.std.specs.Prelude.{ℕ, Bool, true, ◌&&◌, if◌then◌else◌, is_some, List, [], ◌∷◌, ◌++◌, codes, Option}
+use Rattle.std.specs.Prelude.{Some, None, option_map}
 use Rattle.gs_plan.specs.declared.plan.Plan.{Plan}
 use Rattle.gs_report.specs.declared.report.Report.{Report}
 use Rattle.gs_program.specs.Asked.{EndsAsked, large, progress}
@@ -16,8 +17,14 @@ use Rattle.gossip_sim.specs.TraceCommand.{rounds_given}
 -- the options that it takes
 abbrev pub options : List Rule
 options =
-    large ∷ progress ∷ once_with_value (codes "--peer") ∷ once_with_value (codes "--neighbour") ∷ once_with_value (codes "--rounds")
-    ∷ once_with_value (codes "--format") ∷ once (codes "--summary") ∷ []
+    large
+    ∷ progress
+    ∷ once_with_value (codes "--peer")
+    ∷ once_with_value (codes "--neighbour")
+    ∷ once_with_value (codes "--rounds")
+    ∷ once_with_value (codes "--format")
+    ∷ once (codes "--summary")
+    ∷ []
 
 -- which scores are asked for, and whether they are summed up
 pub record Asked : Type 0 where
@@ -50,7 +57,8 @@ wishes_with given rounds f = record {
 }
 
 -- a summary has no form
-abbrev pub asked_with : List Given → (is_summary : Bool) → Option (Option RoundSpan) → Option (Option Form) → Option Asked
+abbrev pub asked_with :
+    List Given → (is_summary : Bool) → Option (Option RoundSpan) → Option (Option Form) → Option Asked
 asked_with given is_summary None f = None
 asked_with given is_summary (Some rounds) None = None
 asked_with given is_summary (Some rounds) (Some f) =
@@ -75,7 +83,10 @@ printed_for a plan report =
     if a.is_summary then summary_text a.wishes plan report else scores_text a.wishes plan report
 
 -- how it ends with these arguments
-abbrev pub EndsFor : List (List ℕ) → (status : ℕ) (input input' output output' errors errors' : Option (List ℕ)) → Type 0
+abbrev pub EndsFor :
+    List (List ℕ)
+    → (status : ℕ) (input input' output output' errors errors' : Option (List ℕ))
+    → Type 0
 EndsFor arguments status input input' output output' errors errors' =
     EndsAsked usage printed_for true wishes_for (options_given options arguments) status
     input input' output output' errors errors'

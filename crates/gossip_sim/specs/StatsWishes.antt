@@ -1,5 +1,6 @@
 -- The command `stats`: what its options ask for.
-use Rattle.std.specs.Prelude.{ℕ, Bool, true, false, not, ◌==◌, ◌&&◌, ◌||◌, nat_le, nat_lt, List, [], ◌∷◌, ◌++◌, codes, length, map, Option, Some, None, is_some, if◌then◌else◌}
+use Rattle.std.specs.Prelude.{ℕ, Bool, true, false, not, ◌==◌, ◌&&◌, ◌||◌, nat_le, nat_lt, if◌then◌else◌}
+use Rattle.std.specs.Prelude.{List, [], ◌∷◌, ◌++◌, codes, length, map, Option, Some, None, is_some}
 use Rattle.std.specs.Char.{is_ascii_alphanumeric}
 use Rattle.std.specs.List.{list_all, list_any, before_first, after_first, position_or_len}
 use Rattle.gs_figure_sheets.specs.Choices.{spelled}
@@ -16,9 +17,16 @@ use Rattle.gossip_sim.specs.declared.stats.wishes.Named.{Named}
 -- the options that it takes: up to 16 groups, and each other one once
 abbrev pub options : List Rule
 options =
-    large ∷ progress ∷ once_with_value (codes "--by") ∷ once_with_value (codes "--of")
+    large
+    ∷ progress
+    ∷ once_with_value (codes "--by")
+    ∷ once_with_value (codes "--of")
     ∷ record { name = codes "--group"; has_value = true; most = 16 }
-    ∷ once (codes "--rounds") ∷ once (codes "--topics") ∷ once (codes "--links") ∷ once (codes "--csv") ∷ once (codes "--json")
+    ∷ once (codes "--rounds")
+    ∷ once (codes "--topics")
+    ∷ once (codes "--links")
+    ∷ once (codes "--csv")
+    ∷ once (codes "--json")
     ∷ []
 
 -- What is asked for. A part that is None was not asked for.
@@ -147,7 +155,8 @@ fits w = (has_messages w.subject || not (is_some w.by)) && (has_groups w.subject
 abbrev pub if_fitting : Wishes → Option Wishes
 if_fitting w = if fits w then Some w else None
 
-abbrev pub wishes_with : List Given → Option (List GroupWish) → Option (Option Subject) → Option (Option Form) → Option Wishes
+abbrev pub wishes_with :
+    List Given → Option (List GroupWish) → Option (Option Subject) → Option (Option Form) → Option Wishes
 wishes_with given None s f = None
 wishes_with given (Some groups) None f = None
 wishes_with given (Some groups) (Some s) None = None

@@ -13,8 +13,13 @@ use Rattle.gs_trace.specs.Wanted.{Wishes, wanted_text}
 -- the options that it takes
 abbrev pub options : List Rule
 options =
-    large ∷ progress ∷ once_with_value (codes "--peer") ∷ once_with_value (codes "--topic") ∷ once_with_value (codes "--rounds")
-    ∷ once_with_value (codes "--events") ∷ []
+    large
+    ∷ progress
+    ∷ once_with_value (codes "--peer")
+    ∷ once_with_value (codes "--topic")
+    ∷ once_with_value (codes "--rounds")
+    ∷ once_with_value (codes "--events")
+    ∷ []
 
 -- The rounds that `--rounds` asks for, and None where its value spells no rounds. Without the option, no rounds are asked for.
 abbrev pub rounds_given : Option (List ℕ) → Option (Option RoundSpan)
@@ -41,7 +46,10 @@ as_printed faults.NoMemory = prints.CutOff
 as_printed faults.WriteFailed = prints.WriteFailed
 
 -- how it ends with these arguments
-abbrev pub EndsFor : List (List ℕ) → (status : ℕ) (input input' output output' errors errors' : Option (List ℕ)) → Type 0
+abbrev pub EndsFor :
+    List (List ℕ)
+    → (status : ℕ) (input input' output output' errors errors' : Option (List ℕ))
+    → Type 0
 EndsFor arguments status input input' output output' errors errors' =
     EndsAsked usage wanted_text true wishes_for (options_given options arguments) status
     input input' output output' errors errors'

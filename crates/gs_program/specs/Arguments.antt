@@ -2,12 +2,12 @@
 use Rattle.std.specs.Prelude.{◌≡◌, ℕ, List, Option, codes}
 use Rattle.std.specs.Io.KnownBytes.{Keeps}
 use Rattle.gs_streams.specs.Streams.{AppendsFront}
-use Rattle.gs_streams.specs.declared.exit_status.ExitStatus.TheVariants.{Unfinished}
+use Rattle.gs_streams.specs.declared.exit_status.ExitStatus.TheVariants.{Unfinished, WrongArguments}
 use Rattle.gs_streams.specs.Statuses.{status_of}
 
 -- the status for wrong arguments, as in sysexits.h (EX_USAGE)
 abbrev pub wrong_arguments : ℕ
-wrong_arguments = 64
+wrong_arguments = status_of WrongArguments
 
 -- the line when out of memory for the arguments, which is the one for a run
 abbrev pub no_memory : List ℕ

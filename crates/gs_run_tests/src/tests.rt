@@ -5,4 +5,5 @@ mod net;
 mod peer;
 mod router;
 mod texts;
+mod traces;
 mod workers;

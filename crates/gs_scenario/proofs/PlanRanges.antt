@@ -21,10 +21,11 @@ use Rattle.gs_plan.specs.declared.plan.Plan.{Plan}
 use Rattle.gs_plan.specs.declared.plan.PlannedPeer.{PlannedPeer}
 use Rattle.gs_scenario.specs.declared.fault.ScenarioFault.{ScenarioFault}
 use Rattle.gs_scenario.specs.declared.scenario.params.Shared.{Shared}
+use Rattle.gs_scenario.specs.declared.scenario.params.Times.{Times}
 use Rattle.gs_scenario.specs.declared.scenario.tables.TableKind.TheVariants as kinds
 use Rattle.gs_scenario.specs.Keys.{Section, only, required, read_key, read_each}
 use Rattle.gs_scenario.specs.Kinds.{whole_number, list_of, section_at}
-use Rattle.gs_scenario.specs.ParamsOf.{highest_number, heartbeat_ms_key, decay_ms_key, fanout_ttl_ms_key, seen_ttl_ms_key, iwant_followup_ms_key, prune_backoff_s_key, unsubscribe_backoff_s_key, mcache_len_key, mcache_gossip_key, opportunistic_ticks_key, opportunistic_peers_key, max_ihave_key, max_ihave_ids_key, gossip_retransmission_key, degrees_in, thresholds_in, factors_in, timing_in, flood_publish_key, shared_names, shared_in, params_of, or_refuse_params, with_topics}
+use Rattle.gs_scenario.specs.ParamsOf.{highest_number, heartbeat_ms_key, decay_ms_key, fanout_ttl_ms_key, seen_ttl_ms_key, iwant_followup_ms_key, prune_backoff_s_key, unsubscribe_backoff_s_key, degrees_in, thresholds_in, factors_in, times_in, counts_in, timing_in, flood_publish_key, shared_names, shared_in, params_of, or_refuse_params, with_topics}
 use Rattle.gs_scenario.specs.PlanOf.{Top, round_ms_key, rounds_key, workers_key, capacity_key, seed_key, params_key, topics_key, peers_key, dials_key, apps_key, explicit_key, script_key, top_keys, top_in, topic_in, peer_in, dial_in, app_in, agreement_in, line_in, plan_in, plan_of_document, plan_of}
 use Rattle.gs_scenario.specs.Refusal.{GivesSame, item_count}
 use Rattle.gs_scenario.proofs.Checked.{same_of_checked, checked_again}
@@ -37,13 +38,16 @@ use Rattle.gs_scenario.proofs.ElementRanges.{PeersAre, peers_are, TopicsDiffer, 
 abbrev TakeRounds : ℕ → Timing → Type 0
 TakeRounds round_ms timing = (timing.heartbeat_ms % round_ms ≡ 0) × (timing.decay_ms % round_ms ≡ 0)
 
+abbrev TimesTakeRounds : ℕ → Times → Type 0
+TimesTakeRounds round_ms times = (times.heartbeat_ms % round_ms ≡ 0) × (times.decay_ms % round_ms ≡ 0)
+
 both : {A B : Type 0} → A → B → A × B
 both x y = (x, y)
 
-timing_is : (round_ms : ℕ) (section : Section) → IfOk (timing_in round_ms section) (TakeRounds round_ms)
-unfolding timing_in
-timing_is round_ms section =
-    let P = TakeRounds round_ms in
+times_are : (round_ms : ℕ) (section : Section) → IfOk (times_in round_ms section) (TimesTakeRounds round_ms)
+unfolding times_in
+times_are round_ms section =
+    let P = TimesTakeRounds round_ms in
     next (λ n. n % round_ms ≡ 0) P (read_key section (heartbeat_ms_key round_ms)) _ (multiple_is round_ms (heartbeat_ms_key round_ms).name (whole_number 0 highest_number) default_timing.heartbeat_ms section)
     (λ heartbeat_ms h. next (λ n. n % round_ms ≡ 0) P (read_key section (decay_ms_key round_ms)) _ (multiple_is round_ms (decay_ms_key round_ms).name (whole_number 0 highest_number) default_timing.decay_ms section)
     (λ decay_ms k.
@@ -51,14 +55,14 @@ timing_is round_ms section =
     past P (read_key section seen_ttl_ms_key) _ (λ seen_ttl_ms.
     past P (read_key section iwant_followup_ms_key) _ (λ iwant_followup_ms.
     past P (read_key section prune_backoff_s_key) _ (λ prune_backoff_s.
-    past P (read_key section unsubscribe_backoff_s_key) _ (λ unsubscribe_backoff_s.
-    past P (read_key section mcache_len_key) _ (λ mcache_len.
-    past P (read_key section mcache_gossip_key) _ (λ mcache_gossip.
-    past P (read_key section opportunistic_ticks_key) _ (λ opportunistic_ticks.
-    past P (read_key section opportunistic_peers_key) _ (λ opportunistic_peers.
-    past P (read_key section max_ihave_key) _ (λ max_ihave.
-    past P (read_key section max_ihave_ids_key) _ (λ max_ihave_ids.
-    past P (read_key section gossip_retransmission_key) _ (λ gossip_retransmission. both h k))))))))))))))
+    past P (read_key section unsubscribe_backoff_s_key) _ (λ unsubscribe_backoff_s. both h k)))))))
+
+timing_is : (round_ms : ℕ) (section : Section) → IfOk (timing_in round_ms section) (TakeRounds round_ms)
+unfolding timing_in
+timing_is round_ms section =
+    let P = TakeRounds round_ms in
+    next (TimesTakeRounds round_ms) P (times_in round_ms section) _ (times_are round_ms section)
+    (λ times h. past P (counts_in section) _ (λ counts. h))
 
 shared_are : (round_ms : ℕ) (section : Section) → IfOk (shared_in round_ms section) (λ shared. TakeRounds round_ms shared.timing)
 unfolding shared_in

@@ -12,7 +12,9 @@ use Rattle.gs_params.specs.declared.param_fault.ParamFault.{ParamFault}
 use Rattle.gs_scenario.specs.declared.fault.ScenarioFault.{ScenarioFault}
 use Rattle.gs_scenario.specs.declared.fault.ScenarioFault.TheVariants as faults
 use Rattle.gs_scenario.specs.declared.scenario.tables.TableKind.TheVariants as kinds
+use Rattle.gs_scenario.specs.declared.scenario.params.Counts.{Counts}
 use Rattle.gs_scenario.specs.declared.scenario.params.Shared.{Shared}
+use Rattle.gs_scenario.specs.declared.scenario.params.Times.{Times}
 use Rattle.gs_scenario.specs.Keys.{Key, Section, ◌>>=◌, optional, read_key, only}
 use Rattle.gs_scenario.specs.Kinds.{whole_number, signed_number, truth_value, hex_text, list_of_each, optional_multiple}
 
@@ -232,8 +234,8 @@ timing_names =
     ∷ gossip_retransmission_key.name
     ∷ []
 
-unfoldable pub timing_in : ℕ → Section → Result Timing ScenarioFault
-timing_in round_ms section = do
+unfoldable pub times_in : ℕ → Section → Result Times ScenarioFault
+times_in round_ms section = do
   heartbeat_ms ← read_key section (heartbeat_ms_key round_ms)
   decay_ms ← read_key section (decay_ms_key round_ms)
   fanout_ttl_ms ← read_key section fanout_ttl_ms_key
@@ -241,13 +243,6 @@ timing_in round_ms section = do
   iwant_followup_ms ← read_key section iwant_followup_ms_key
   prune_backoff_s ← read_key section prune_backoff_s_key
   unsubscribe_backoff_s ← read_key section unsubscribe_backoff_s_key
-  mcache_len ← read_key section mcache_len_key
-  mcache_gossip ← read_key section mcache_gossip_key
-  opportunistic_ticks ← read_key section opportunistic_ticks_key
-  opportunistic_peers ← read_key section opportunistic_peers_key
-  max_ihave ← read_key section max_ihave_key
-  max_ihave_ids ← read_key section max_ihave_ids_key
-  gossip_retransmission ← read_key section gossip_retransmission_key
   Ok (record {
     heartbeat_ms = heartbeat_ms;
     decay_ms = decay_ms;
@@ -256,6 +251,18 @@ timing_in round_ms section = do
     iwant_followup_ms = iwant_followup_ms;
     prune_backoff_s = prune_backoff_s;
     unsubscribe_backoff_s = unsubscribe_backoff_s;
+  })
+
+unfoldable pub counts_in : Section → Result Counts ScenarioFault
+counts_in section = do
+  mcache_len ← read_key section mcache_len_key
+  mcache_gossip ← read_key section mcache_gossip_key
+  opportunistic_ticks ← read_key section opportunistic_ticks_key
+  opportunistic_peers ← read_key section opportunistic_peers_key
+  max_ihave ← read_key section max_ihave_key
+  max_ihave_ids ← read_key section max_ihave_ids_key
+  gossip_retransmission ← read_key section gossip_retransmission_key
+  Ok (record {
     mcache_len = mcache_len;
     mcache_gossip = mcache_gossip;
     opportunistic_ticks = opportunistic_ticks;
@@ -264,6 +271,31 @@ timing_in round_ms section = do
     max_ihave_ids = max_ihave_ids;
     gossip_retransmission = gossip_retransmission;
   })
+
+-- times and counts, as one record
+abbrev pub timing_of : Times → Counts → Timing
+timing_of times counts = record {
+  heartbeat_ms = times.heartbeat_ms;
+  decay_ms = times.decay_ms;
+  fanout_ttl_ms = times.fanout_ttl_ms;
+  seen_ttl_ms = times.seen_ttl_ms;
+  iwant_followup_ms = times.iwant_followup_ms;
+  prune_backoff_s = times.prune_backoff_s;
+  unsubscribe_backoff_s = times.unsubscribe_backoff_s;
+  mcache_len = counts.mcache_len;
+  mcache_gossip = counts.mcache_gossip;
+  opportunistic_ticks = counts.opportunistic_ticks;
+  opportunistic_peers = counts.opportunistic_peers;
+  max_ihave = counts.max_ihave;
+  max_ihave_ids = counts.max_ihave_ids;
+  gossip_retransmission = counts.gossip_retransmission;
+}
+
+unfoldable pub timing_in : ℕ → Section → Result Timing ScenarioFault
+timing_in round_ms section = do
+  times ← times_in round_ms section
+  counts ← counts_in section
+  Ok (timing_of times counts)
 
 -- ---- the parameters that all topics share
 

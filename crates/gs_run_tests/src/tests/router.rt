@@ -207,15 +207,16 @@ fn told_to(player: &Player) -> usize {
     }
 }
 
-/// How many deliveries a message without a topic brings, and to how many neighbours a publication on the empty topic goes
-/// after one of two has subscribed to no topic.
-fn on_an_absent_topic(player: &mut Player) -> Result<(usize, usize), AllocError> {
+/// To how many neighbours a subscription to the empty topic is announced, and how many deliveries a message without a topic
+/// brings. Last, to how many a publication on the empty topic goes after one of two has subscribed to no topic.
+fn on_an_absent_topic(player: &mut Player) -> Result<[usize; 3], AllocError> {
     let _ = number_of(player, 0, Subscribe(""))?;
+    let announced = told_to(player);
     let _ = number_of(player, 0, Hear(1, &[Message("", b"x")]))?;
     let deliveries = delivered(player);
     let _ = number_of(player, 0, Hear(1, &[On("")]))?;
     let _ = number_of(player, 1, Publish("", b"abc"))?;
-    Ok((deliveries, told_to(player)))
+    Ok([announced, deliveries, told_to(player)])
 }
 
 #[test]
@@ -223,7 +224,7 @@ fn an_absent_topic_is_the_empty_one(rt: HostRuntime) -> Result<(), AllocError> {
     let mut player = Player::new(rt.alloc(), &NOTHING)?;
     let seen = on_an_absent_topic(&mut player);
     drop(player);
-    assert_eq!(rt; seen?, (1, 1));
+    assert_eq!(rt; seen?, [2, 1, 1]);
     Ok(())
 }
 

@@ -45,7 +45,7 @@ fn no_futures_give_no_outputs(rt: HostRuntime) {
 
 /// Memory runs out for this many workers, and the flag is set.
 #[test]
-fn too_many_workers_are_want_of_memory(rt: HostRuntime) -> Result<(), AllocError> {
+fn too_many_workers_run_out_of_memory(rt: HostRuntime) -> Result<(), AllocError> {
     let stop = StopFlag::new(rt.alloc())?;
     let ran = given(&rt, usize::MAX, 1, &stop);
     assert!(rt; stop.is_set());

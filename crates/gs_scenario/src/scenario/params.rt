@@ -2,7 +2,7 @@ ghost use Rattle.std.specs.Prelude.{◌≡◌, ◌≤◌, map, option_map, unwra
 ghost use Rattle.toml.specs.Data.{no_members};
 ghost use Rattle.toml.specs.View.{table_view};
 ghost use Rattle.gs_scenario.specs.Refusal.{GivesSame};
-ghost use Rattle.gs_scenario.specs.ParamsOf.{shared_in, shared_names, degrees_in, thresholds_in, factors_in, timing_in, params_of};
+ghost use Rattle.gs_scenario.specs.ParamsOf.{shared_in, shared_names, degrees_in, thresholds_in, factors_in, times_in, counts_in, timing_of, timing_in, params_of};
 ghost use Rattle.gs_scenario.specs.Kinds.{section_at};
 ghost use Rattle.gs_scenario.specs.PlanOf.{params_key};
 ghost use Rattle.gs_scenario.specs.Views.{section_of};
@@ -27,6 +27,31 @@ pub struct Shared {
     pub factors: Factors,
     pub timing: Timing,
     pub flood_publish: bool,
+}
+
+/// The times of the protocol, in milliseconds and seconds. With `Counts`, they are the `Timing` of all topics. Each half is read
+/// by itself, because each key that is read costs the prover as much as all keys after it.
+#[derive(Clone, Copy)]
+pub struct Times {
+    pub heartbeat_ms: u64,
+    pub decay_ms: u64,
+    pub fanout_ttl_ms: u64,
+    pub seen_ttl_ms: u64,
+    pub iwant_followup_ms: u64,
+    pub prune_backoff_s: u64,
+    pub unsubscribe_backoff_s: u64,
+}
+
+/// What the protocol keeps, sends or does at most, or each so often.
+#[derive(Clone, Copy)]
+pub struct Counts {
+    pub mcache_len: u64,
+    pub mcache_gossip: u64,
+    pub opportunistic_ticks: u64,
+    pub opportunistic_peers: u64,
+    pub max_ihave: u64,
+    pub max_ihave_ids: u64,
+    pub gossip_retransmission: u64,
 }
 
 /// Returns the parameters of the table at `params`, which may be missing. The heartbeat and the decay must take whole rounds
@@ -159,8 +184,39 @@ fn timing_in(section: &Section<'_>, round_ms: u64) -> Result<Timing, ScenarioFau
     requires { 1 ≤ round_ms }
     ensures { GivesSame result (timing_in round_ms (section_of section.now)) }
 {
+    let times = times_in(section, round_ms)?;
+    let counts = counts_in(section)?;
+    Ok(timing_of(times, counts))
+}
+
+fn timing_of(times: Times, counts: Counts) -> Timing
+    ensures { result ≡ timing_of times counts }
+{
+    Timing {
+        heartbeat_ms: times.heartbeat_ms,
+        decay_ms: times.decay_ms,
+        fanout_ttl_ms: times.fanout_ttl_ms,
+        seen_ttl_ms: times.seen_ttl_ms,
+        iwant_followup_ms: times.iwant_followup_ms,
+        prune_backoff_s: times.prune_backoff_s,
+        unsubscribe_backoff_s: times.unsubscribe_backoff_s,
+        mcache_len: counts.mcache_len,
+        mcache_gossip: counts.mcache_gossip,
+        opportunistic_ticks: counts.opportunistic_ticks,
+        opportunistic_peers: counts.opportunistic_peers,
+        max_ihave: counts.max_ihave,
+        max_ihave_ids: counts.max_ihave_ids,
+        gossip_retransmission: counts.gossip_retransmission,
+    }
+}
+
+#[tactic(auto, unfolding(crate::specs::ParamsOf::times_in))]
+fn times_in(section: &Section<'_>, round_ms: u64) -> Result<Times, ScenarioFault>
+    requires { 1 ≤ round_ms }
+    ensures { GivesSame result (times_in round_ms (section_of section.now)) }
+{
     let default = DEFAULT_TIMING;
-    Ok(Timing {
+    Ok(Times {
         heartbeat_ms: section.multiple("heartbeat_ms", default.heartbeat_ms, round_ms)?,
         decay_ms: section.multiple("decay_ms", default.decay_ms, round_ms)?,
         fanout_ttl_ms: section.count("fanout_ttl_ms", default.fanout_ttl_ms)?,
@@ -171,6 +227,15 @@ fn timing_in(section: &Section<'_>, round_ms: u64) -> Result<Timing, ScenarioFau
             "unsubscribe_backoff_s",
             default.unsubscribe_backoff_s,
         )?,
+    })
+}
+
+#[tactic(auto, unfolding(crate::specs::ParamsOf::counts_in))]
+fn counts_in(section: &Section<'_>) -> Result<Counts, ScenarioFault>
+    ensures { GivesSame result (counts_in (section_of section.now)) }
+{
+    let default = DEFAULT_TIMING;
+    Ok(Counts {
         mcache_len: section.count("mcache_len", default.mcache_len)?,
         mcache_gossip: section.count("mcache_gossip", default.mcache_gossip)?,
         opportunistic_ticks: section.count("opportunistic_ticks", default.opportunistic_ticks)?,

@@ -3,7 +3,7 @@ ghost use Rattle.std.specs.Prelude.{IfOk};
 ghost use Rattle.gs_params.specs.Params.{AreInRange};
 
 use bytes::Bytes;
-use gs_base::{Mark, Millis, Neighbour, PeerNo, Topic};
+use gs_base::{Mark, Millis, MsgId, Neighbour, PeerNo, Topic};
 use gs_params::{Params, TopicParams};
 use gs_score::{Kind, Rulebook, Scores};
 use std::alloc::{AllocError, Global};
@@ -12,16 +12,25 @@ fn topic(name: &'static [u8]) -> Topic {
     Topic(Bytes::from_static(name))
 }
 
-/// Parameters of topics, each with a weight of invalid messages.
-fn params(alloc: Global, rows: &[(&'static [u8], i64)]) -> Result<Params, AllocError>
-    ensures { IfOk result AreInRange }
-{
-    let mut params = Params::new(alloc);
+fn add_topics(
+    alloc: Global,
+    params: &mut Params,
+    rows: &[(&'static [u8], i64)],
+) -> Result<(), AllocError> {
     for (name, weight) in rows {
         let mut one = TopicParams::new(alloc);
         one.factors.w4 = *weight;
         params.topics.push((topic(*name), one))?;
     }
+    Ok(())
+}
+
+/// Parameters of topics, each with a weight of invalid messages.
+fn params(alloc: Global, rows: &[(&'static [u8], i64)]) -> Result<Params, AllocError>
+    ensures { IfOk result AreInRange }
+{
+    let mut params = Params::new(alloc);
+    add_topics(alloc, &mut params, rows)?;
     match params.check() {
         Ok(params) => Ok(params),
         Err(_) => Err(AllocError),
@@ -38,8 +47,14 @@ fn scores(alloc: Global) -> Result<Scores, AllocError> {
     scores
 }
 
+/// On how many topics anything is known about a peer.
+fn topic_count(alloc: Global, scores: &Scores, peer: PeerNo) -> Result<usize, AllocError> {
+    Ok(scores.topics(alloc, peer)?.len())
+}
+
 /// Whether a peer has no score, nothing kept, and no topic.
 fn has_nothing(alloc: Global, scores: &Scores, peer: PeerNo) -> Result<bool, AllocError> {
+    let topics = topic_count(alloc, scores, peer)?;
     let t = topic(b"t");
     let parts = scores.topic_parts(peer, &t, Millis(5_000));
     let counts = [
@@ -48,7 +63,6 @@ fn has_nothing(alloc: Global, scores: &Scores, peer: PeerNo) -> Result<bool, All
         scores.counter(peer, &t, Kind::Deficit),
         scores.missing(peer, &t, Millis(5_000)),
     ];
-    let topics = scores.topics(alloc, peer)?.len();
     Ok(
         counts == [0; 4]
             && parts.topic_score == 0
@@ -57,22 +71,51 @@ fn has_nothing(alloc: Global, scores: &Scores, peer: PeerNo) -> Result<bool, All
     )
 }
 
+/// Applies a mark, if it has a place in the scores.
+fn apply(scores: &mut Scores, mark: &Mark) -> Result<(), AllocError> {
+    if scores.accepts(mark) {
+        return scores.apply(mark);
+    }
+    Ok(())
+}
+
+/// Prunes peer 4, and shuts it out.
+fn lose_stranger(scores: &mut Scores) {
+    scores.prune(PeerNo(4), &topic(b"t"));
+    scores.shut_out(PeerNo(4));
+}
+
+fn has_nothing_after(
+    alloc: Global,
+    scores: &mut Scores,
+    mark: &Mark,
+    peer: PeerNo,
+) -> Result<bool, AllocError> {
+    apply(scores, mark)?;
+    lose_stranger(scores);
+    has_nothing(alloc, scores, peer)
+}
+
 /// Whether a peer has nothing after a mark, and after peer 4 is pruned and shut out.
 fn is_without_effect(alloc: Global, mark: &Mark, peer: PeerNo) -> Result<bool, AllocError> {
     let mut scores = scores(alloc)?;
-    if scores.accepts(mark) {
-        scores.apply(mark)?;
-    }
-    scores.prune(PeerNo(4), &topic(b"t"));
-    scores.shut_out(PeerNo(4));
-    has_nothing(alloc, &scores, peer)
+    let nothing = has_nothing_after(alloc, &mut scores, mark, peer);
+    drop(scores);
+    nothing
 }
 
 #[test]
 fn what_concerns_no_neighbour_changes_nothing(rt: HostRuntime) -> Result<(), AllocError> {
-    let stranger = Mark::Misbehaviour(PeerNo(4));
+    let alloc = rt.alloc();
     for peer in [1u16, 4] {
-        assert!(rt; is_without_effect(rt.alloc(), &stranger, PeerNo(peer))?);
+        assert!(rt; is_without_effect(alloc, &Mark::Misbehaviour(PeerNo(4)), PeerNo(peer))?);
+        assert!(rt;
+            is_without_effect(
+                alloc,
+                &Mark::First(PeerNo(4), topic(b"t"), MsgId([7; 32])),
+                PeerNo(peer)
+            )?
+        );
     }
     Ok(())
 }
@@ -80,11 +123,11 @@ fn what_concerns_no_neighbour_changes_nothing(rt: HostRuntime) -> Result<(), All
 /// What a deficit of this amount adds to a neighbour's counter.
 fn counted(alloc: Global, amount: i128) -> Result<u64, AllocError> {
     let mut scores = scores(alloc)?;
-    let mark = Mark::Deficit(PeerNo(1), topic(b"t"), amount);
-    if scores.accepts(&mark) {
-        scores.apply(&mark)?;
-    }
-    Ok(scores.counter(PeerNo(1), &topic(b"t"), Kind::Deficit))
+    let applied = apply(&mut scores, &Mark::Deficit(PeerNo(1), topic(b"t"), amount));
+    let count = scores.counter(PeerNo(1), &topic(b"t"), Kind::Deficit);
+    drop(scores);
+    applied?;
+    Ok(count)
 }
 
 #[test]
@@ -107,7 +150,9 @@ fn weight(rulebook: &Rulebook, name: &'static [u8]) -> i64 {
 /// The weights that are found for topics `a`, `b` and `c`, and whether any topic weighs.
 fn found(alloc: Global, rows: &[(&'static [u8], i64)]) -> Result<([i64; 3], bool), AllocError> {
     let params = params(alloc, rows)?;
-    let rulebook = Rulebook::new(alloc, &params)?;
+    let rulebook = Rulebook::new(alloc, &params);
+    drop(params);
+    let rulebook = rulebook?;
     let found = (
         [
             weight(&rulebook, b"a"),
@@ -117,7 +162,6 @@ fn found(alloc: Global, rows: &[(&'static [u8], i64)]) -> Result<([i64; 3], bool
         rulebook.any_weighs(),
     );
     drop(rulebook);
-    drop(params);
     Ok(found)
 }
 

@@ -68,6 +68,11 @@ fn an_input_is_read_so_often_at_most(rt: HostRuntime) {
     let mut stalled = Stalled { reads: 0 };
     assert_eq!(rt; read_of(rt.alloc(), &mut stalled), Err(ReadFault::Failed));
     assert_eq!(rt; stalled.reads, 10_000_000);
+    let mut trickle = Trickle {
+        left: 5_000_000,
+        is_ready: true,
+    };
+    assert_eq!(rt; read_of(rt.alloc(), &mut trickle), Err(ReadFault::Failed));
 }
 
 #[test]

@@ -11,29 +11,36 @@ fn peers_that_are_taken_stand_in_the_order_of_their_numbers(
     rt: HostRuntime,
 ) -> Result<(), AllocError> {
     let mut list = PeerList::new(rt.alloc());
-    for number in [7u16, 3, 9, 7, 8] {
+    for number in [7u16, 65_535, 3, 7, 8] {
         list.insert(PeerNo(number))?;
     }
     assert!(rt; list.remove(PeerNo(8)));
     let taken = list.take();
     assert_eq!(rt;
         taken.as_slice(),
-        [PeerNo(3), PeerNo(7), PeerNo(9)].as_slice()
+        [PeerNo(3), PeerNo(7), PeerNo(65_535)].as_slice()
     );
     assert!(rt; list.as_slice().is_empty());
     Ok(())
+}
+
+/// Joins a topic, and grafts peers 5 and 2 on it.
+fn graft_two(meshes: &mut Meshes, topic: &Topic) -> Result<(), AllocError> {
+    meshes.join(topic)?;
+    meshes.graft(PeerNo(5), topic)?;
+    meshes.graft(PeerNo(2), topic)
 }
 
 /// Who was in the mesh that a peer left, and who is then.
 fn left_mesh(alloc: Global) -> Result<(Vec<PeerNo>, usize), AllocError> {
     let topic = Topic(Bytes::from_static(b"news"));
     let mut meshes = Meshes::new(alloc);
-    meshes.join(&topic)?;
-    meshes.graft(PeerNo(5), &topic)?;
-    meshes.graft(PeerNo(2), &topic)?;
+    let grafted = graft_two(&mut meshes, &topic);
     let members = meshes.leave(&topic);
     let left = meshes.leave(&topic).len();
     drop(meshes);
+    drop(topic);
+    grafted?;
     Ok((members, left))
 }
 
@@ -82,11 +89,13 @@ fn told(addresses: &Addresses) -> Told {
     )
 }
 
-/// The scores and numbers before neighbour 2 is shut out, and after.
+/// The scores and numbers before neighbour 2 is shut out, and after it was shut out twice. Peer 9 is shut out, too.
 fn told_twice(alloc: Global) -> Result<(Told, Told), AllocError> {
     let mut addresses = addresses(alloc)?;
     let before = told(&addresses);
     addresses.shut_out(PeerNo(2));
+    addresses.shut_out(PeerNo(2));
+    addresses.shut_out(PeerNo(9));
     let after = told(&addresses);
     drop(addresses);
     Ok((before, after))
@@ -102,14 +111,25 @@ fn neighbours_count_at_their_addresses_until_they_are_shut_out(
     Ok(())
 }
 
-/// On how many topics a neighbour has something after it was grafted on one of them twice.
+/// Grafts a neighbour on a topic of this name.
+fn graft(standings: &mut TopicStandings, name: &'static [u8], at: u64) -> Result<(), AllocError> {
+    standings.graft(&Topic(Bytes::from_static(name)), Millis(at))
+}
+
+/// Grafts it on topics `a` and `b`, and on `a` again.
+fn graft_thrice(standings: &mut TopicStandings) -> Result<(), AllocError> {
+    graft(standings, b"a", 1)?;
+    graft(standings, b"b", 1)?;
+    graft(standings, b"a", 2)
+}
+
+/// On how many topics a neighbour then has something.
 fn topics_with_something(alloc: Global) -> Result<usize, AllocError> {
     let mut standings = TopicStandings::new(alloc);
-    standings.graft(&Topic(Bytes::from_static(b"a")), Millis(1))?;
-    standings.graft(&Topic(Bytes::from_static(b"b")), Millis(1))?;
-    standings.graft(&Topic(Bytes::from_static(b"a")), Millis(2))?;
+    let grafted = graft_thrice(&mut standings);
     let count = standings.len();
     drop(standings);
+    grafted?;
     Ok(count)
 }
 

@@ -3,7 +3,7 @@ use gs_base::PeerNo;
 use gs_link::{Item, LinkRx, LinkTx, SendRefused};
 use gs_net::wire_all;
 use gs_plan::Dial;
-use gs_seats::{empty_lists, put_last, take_last};
+use gs_seats::{empty_lists, own_of, put_last, take_last};
 use std::alloc::{AllocError, Global};
 use std::test::*;
 
@@ -18,6 +18,18 @@ static TWO: [Dial; 2] = [
         to: PeerNo(0),
     },
 ];
+
+const OTHER: Dial = Dial {
+    from: PeerNo(1),
+    to: PeerNo(2),
+};
+
+#[test]
+fn a_peer_has_the_dials_that_it_makes_and_those_to_it(rt: HostRuntime) -> Result<(), Fail> {
+    let own = own_of(rt.alloc(), &[TWO[0], OTHER, TWO[1]], PeerNo(0))?;
+    assert!(rt; own.as_slice() == TWO.as_slice());
+    Ok(())
+}
 
 /// The neighbours of a list, in order.
 fn neighbours(alloc: Global, list: &[(PeerNo, LinkTx, LinkRx)]) -> Result<Vec<PeerNo>, AllocError> {

@@ -146,4 +146,27 @@ const PUTS_BYTES: Case<'static> = Case {
     ..NOTHING
 };
 
-pub static CASES: &[Case<'static>] = &[SCRIPTED, HANGS_UP, HANGS_UP_AT_ONCE, PUTS_BYTES];
+/// The neighbour subscribes, and closes its link at once. The end of round 0 is all that is said to it.
+const IS_LEFT: Case<'static> = Case {
+    name: "to a neighbour that has left nothing more is said",
+    hears: &[Word::Piece(SUBSCRIBES)],
+    says: &[Word::Rounds(0, 0)],
+    ..NOTHING
+};
+
+/// A field 0 is a fault.
+const AT_FAULT: Case<'static> = Case {
+    name: "to a neighbour at fault nothing more is said",
+    hears: &[Word::Piece(b"\x02\x00\x00")],
+    says: &[Word::Rounds(0, 0)],
+    ..NOTHING
+};
+
+pub static CASES: &[Case<'static>] = &[
+    SCRIPTED,
+    HANGS_UP,
+    HANGS_UP_AT_ONCE,
+    PUTS_BYTES,
+    IS_LEFT,
+    AT_FAULT,
+];

@@ -114,6 +114,23 @@ fn an_empty_rpc_has_no_part(rt: HostRuntime) -> Result<(), AllocError> {
     Ok(())
 }
 
+/// Whether a PRUNE with a backoff of more than a day has one of a day.
+fn prunes_for_a_day(alloc: Global) -> Result<bool, AllocError> {
+    let topic = topic(alloc)?;
+    let (long, day) = (
+        Rpc::pruning(alloc, &topic, 86_401),
+        Rpc::pruning(alloc, &topic, 86_400),
+    );
+    drop(topic);
+    Ok(long? == day?)
+}
+
+#[test]
+fn a_backoff_is_sent_up_to_a_day(rt: HostRuntime) -> Result<(), AllocError> {
+    assert!(rt; prunes_for_a_day(rt.alloc())?);
+    Ok(())
+}
+
 /// Whether a message that is shared by itself is the message.
 fn is_shared_alone(alloc: Global) -> Result<bool, AllocError> {
     let shared = message(alloc, b"abc")?.share(alloc)?;
