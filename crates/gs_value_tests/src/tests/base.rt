@@ -186,29 +186,49 @@ fn a_clone_of_a_pair_has_both(rt: HostRuntime) -> Result<(), AllocError> {
     Ok(())
 }
 
-/// What is absent in a message and in a subscription has a value.
-fn absent_parts_have_values(alloc: Global) -> Result<bool, AllocError> {
-    let mut heard = message(alloc, b"abc")?;
-    let is_whole = heard.topic_or_empty()? == topic(alloc)?
-        && heard.payload_bytes() == b"abc".as_slice()
-        && heard.payload_or_empty()?.as_slice() == b"abc".as_slice();
+/// Whether a message has this topic.
+fn is_on(heard: &Message, topic: &Topic) -> Result<bool, AllocError> {
+    Ok(heard.topic_or_empty()? == *topic)
+}
+
+/// Whether a message has this payload.
+fn holds(heard: &Message, payload: &[u8]) -> Result<bool, AllocError> {
+    Ok(heard.payload_bytes() == payload && heard.payload_or_empty()?.as_slice() == payload)
+}
+
+/// Whether a message has what is in it, and empty values after that is taken away.
+fn is_emptied(heard: &mut Message, topic: &Topic) -> Result<bool, AllocError> {
+    let is_whole = is_on(heard, topic)? && holds(heard, b"abc")?;
     heard.topic = None;
     heard.payload = None;
-    let is_empty = heard.topic_or_empty()? == Topic(Bytes::new())
-        && heard.payload_bytes().is_empty()
-        && heard.payload_or_empty()?.is_empty();
-    Ok(is_whole && is_empty)
+    Ok(is_whole && is_on(heard, &Topic(Bytes::new()))? && holds(heard, b"")?)
+}
+
+/// What is absent in a message has a value.
+fn absent_parts_have_values(alloc: Global) -> Result<bool, AllocError> {
+    let topic = topic(alloc)?;
+    let mut heard = message(alloc, b"abc")?;
+    let is_emptied = is_emptied(&mut heard, &topic);
+    drop(heard);
+    drop(topic);
+    is_emptied
+}
+
+/// What is absent in a subscription, or by itself, has one, too.
+fn absent_topics_have_values(alloc: Global) -> Result<bool, AllocError> {
+    let sub = SubOpt {
+        subscribe: None,
+        topic: None,
+    };
+    let empty = sub.topic_or_empty();
+    drop(sub);
+    Ok(empty? == Topic(Bytes::new()) && Topic::or_empty(&Some(topic(alloc)?))? == topic(alloc)?)
 }
 
 #[test]
 fn what_is_absent_in_a_message_is_empty(rt: HostRuntime) -> Result<(), AllocError> {
     assert!(rt; absent_parts_have_values(rt.alloc())?);
-    let sub = SubOpt {
-        subscribe: None,
-        topic: None,
-    };
-    assert!(rt; sub.topic_or_empty()? == Topic(Bytes::new()));
-    assert!(rt; Topic::or_empty(&Some(topic(rt.alloc())?))? == topic(rt.alloc())?);
+    assert!(rt; absent_topics_have_values(rt.alloc())?);
     Ok(())
 }
 
@@ -242,14 +262,27 @@ fn publishes_alone(alloc: Global) -> Result<bool, AllocError> {
     Ok(published == wanted)
 }
 
+/// Whether an RPC announces a subscription to this topic, and nothing more.
+fn announces(joins: &Rpc, topic: &Topic) -> bool {
+    match joins.subs.as_slice() {
+        [sub] => match &sub.topic {
+            Some(named) => {
+                sub.subscribe == Some(true) && named == topic && joins.publish.is_empty()
+            }
+            None => false,
+        },
+        _ => false,
+    }
+}
+
 /// A subscription is the only part of its RPC.
 fn announces_alone(alloc: Global) -> Result<bool, AllocError> {
-    let joins = Rpc::announcement(alloc, true, &topic(alloc)?)?;
-    let [sub] = joins.subs.as_slice() else {
-        return Ok(false);
-    };
-    let is_told = sub.subscribe == Some(true) && sub.topic == Some(topic(alloc)?);
-    Ok(is_told && joins.publish.is_empty())
+    let topic = topic(alloc)?;
+    let joins = Rpc::announcement(alloc, true, &topic)?;
+    let is_told = announces(&joins, &topic);
+    drop(joins);
+    drop(topic);
+    Ok(is_told)
 }
 
 #[test]

@@ -104,18 +104,20 @@ fn is_without_effect(alloc: Global, mark: &Mark, peer: PeerNo) -> Result<bool, A
     nothing
 }
 
+/// Whether marks of peer 4, which is no neighbour, leave a peer with nothing.
+fn stays_without(alloc: Global, peer: u16) -> Result<bool, AllocError> {
+    let peer = PeerNo(peer);
+    let blamed = is_without_effect(alloc, &Mark::Misbehaviour(PeerNo(4)), peer)?;
+    let first = Mark::First(PeerNo(4), topic(b"t"), MsgId([7; 32]));
+    let credited = is_without_effect(alloc, &first, peer);
+    drop(first);
+    Ok(blamed && credited?)
+}
+
 #[test]
 fn what_concerns_no_neighbour_changes_nothing(rt: HostRuntime) -> Result<(), AllocError> {
-    let alloc = rt.alloc();
     for peer in [1u16, 4] {
-        assert!(rt; is_without_effect(alloc, &Mark::Misbehaviour(PeerNo(4)), PeerNo(peer))?);
-        assert!(rt;
-            is_without_effect(
-                alloc,
-                &Mark::First(PeerNo(4), topic(b"t"), MsgId([7; 32])),
-                PeerNo(peer)
-            )?
-        );
+        assert!(rt; stays_without(rt.alloc(), peer)?);
     }
     Ok(())
 }

@@ -87,16 +87,24 @@ fn is_second<P: Part + PartialEq>(rpc: &Shared<Rpc>, wanted: &P) -> Result<bool,
     Ok(second.get() == wanted && copy == second && first != second)
 }
 
+/// Whether the second part of each kind is.
+fn have_their_places(alloc: Global, rpc: &Shared<Rpc>) -> Result<bool, AllocError> {
+    Ok(
+        is_second(rpc, &sub(alloc, false)?)?
+            && is_second(rpc, &message(alloc, b"de")?)?
+            && is_second(rpc, &offer(alloc, b"y")?)?
+            && is_second(rpc, &request(alloc, b"y")?)?
+            && is_second(rpc, &graft(alloc)?)?
+            && is_second(rpc, &prune(2))?,
+    )
+}
+
 #[test]
 fn a_part_is_the_one_at_its_place(rt: HostRuntime) -> Result<(), AllocError> {
-    let alloc = rt.alloc();
-    let rpc = rpc(alloc)?;
-    assert!(rt; is_second(&rpc, &sub(alloc, false)?)?);
-    assert!(rt; is_second(&rpc, &message(alloc, b"de")?)?);
-    assert!(rt; is_second(&rpc, &offer(alloc, b"y")?)?);
-    assert!(rt; is_second(&rpc, &request(alloc, b"y")?)?);
-    assert!(rt; is_second(&rpc, &graft(alloc)?)?);
-    assert!(rt; is_second(&rpc, &prune(2))?);
+    let rpc = rpc(rt.alloc())?;
+    let placed = have_their_places(rt.alloc(), &rpc);
+    drop(rpc);
+    assert!(rt; placed?);
     Ok(())
 }
 
