@@ -1,5 +1,6 @@
 //! Pieces that cross between two threads.
-use crate::tests::ends::links::{bytes_of, narrow};
+use crate::tests::ends::answers::is_piece;
+use crate::tests::ends::links::narrow;
 use bytes::Bytes;
 use gs_link::{Item, LinkRx, LinkTx, SendRefused, Taken};
 use std::alloc::Global;
@@ -40,17 +41,27 @@ fn close_at_last<R: Wait>(rt: &R, tx: &mut LinkTx) -> bool {
     false
 }
 
-/// Sends each number as a piece of four bytes, and then closes; whether all of it was accepted.
-fn send_numbers<R: Wait>(rt: &R, alloc: Global, mut tx: LinkTx) -> bool {
+/// Sends a number as a piece of four bytes; whether it was accepted.
+fn send_number<R: Wait>(rt: &R, alloc: Global, tx: &mut LinkTx, number: u32) -> bool {
+    match Bytes::copy_from_slice(alloc, &number.to_le_bytes()) {
+        Ok(bytes) => send_at_last(rt, tx, Item::Piece(bytes)),
+        Err(_) => false,
+    }
+}
+
+/// Sends each number; whether all of them were accepted.
+fn send_each<R: Wait>(rt: &R, alloc: Global, tx: &mut LinkTx) -> bool {
     for number in 0..PIECES {
-        let Ok(bytes) = Bytes::copy_from_slice(alloc, &number.to_le_bytes()) else {
-            return false;
-        };
-        if !send_at_last(rt, &mut tx, Item::Piece(bytes)) {
+        if !send_number(rt, alloc, tx, number) {
             return false;
         }
     }
-    close_at_last(rt, &mut tx)
+    true
+}
+
+/// Sends each number, and then closes; whether all of it was accepted.
+fn send_numbers<R: Wait>(rt: &R, alloc: Global, mut tx: LinkTx) -> bool {
+    send_each(rt, alloc, &mut tx) && close_at_last(rt, &mut tx)
 }
 
 /// Takes what comes, as soon as it comes. Empty where nothing came.
@@ -64,17 +75,30 @@ fn take_at_last<R: Wait>(rt: &R, rx: &mut LinkRx) -> Taken {
     Taken::Empty
 }
 
-/// Whether the pieces that come are the numbers in order, and the close comes after them.
-fn take_numbers<R: Wait>(rt: &R, mut rx: LinkRx) -> bool {
+/// Whether the piece that comes is this number.
+fn take_number<R: Wait>(rt: &R, rx: &mut LinkRx, number: u32) -> bool {
+    let taken = take_at_last(rt, rx);
+    is_piece(&taken, &number.to_le_bytes())
+}
+
+/// Whether the close comes.
+fn take_close<R: Wait>(rt: &R, rx: &mut LinkRx) -> bool {
+    matches!(take_at_last(rt, rx), Taken::Closed)
+}
+
+/// Whether the pieces that come are the numbers in order.
+fn take_each<R: Wait>(rt: &R, rx: &mut LinkRx) -> bool {
     for number in 0..PIECES {
-        let Some(bytes) = bytes_of(take_at_last(rt, &mut rx)) else {
-            return false;
-        };
-        if bytes.as_slice() != number.to_le_bytes().as_slice() {
+        if !take_number(rt, rx, number) {
             return false;
         }
     }
-    take_at_last(rt, &mut rx) == Taken::Closed
+    true
+}
+
+/// Whether the numbers come in order, and the close comes after them.
+fn take_numbers<R: Wait>(rt: &R, mut rx: LinkRx) -> bool {
+    take_each(rt, &mut rx) && take_close(rt, &mut rx)
 }
 
 #[test]

@@ -5,21 +5,21 @@ ghost use Rattle.gs_link.specs.Runs.{closes};
 ghost use Rattle.gs_ends.specs.Ends.{comes_from, has};
 ghost use Rattle.gs_ends.specs.Lists.{joints_in_lists, taken_in_lists};
 
-use crate::tests::ends::ends::piece;
+use crate::tests::ends::answers::{Answer, Asked, asking, is_piece, piece};
 use gs_base::PeerNo;
 use gs_ends::{Ends, ListEnds};
 use gs_link::{Item, Taken};
 use std::alloc::{AllocError, Global};
 use std::test::*;
 
-#[derive(Clone, Copy, Debug)]
+#[derive(Clone, Copy)]
 enum Neighbour {
     Nine,
     Two,
     Five,
 }
 
-#[derive(Clone, Copy, Debug)]
+#[derive(Clone, Copy)]
 enum Came<'a> {
     Piece(&'a [u8]),
     Round(u64),
@@ -80,12 +80,22 @@ fn take_of(ends: &mut ListEnds, from: Neighbour) -> Taken
 }
 
 fn is_taken(taken: &Taken, came: Came<'_>) -> bool {
-    match (taken, came) {
-        (Taken::Got(Item::Piece(bytes)), Came::Piece(wanted)) => bytes.as_slice() == wanted,
-        (Taken::Got(Item::Round(round)), Came::Round(wanted)) => *round == wanted,
-        (Taken::Closed, Came::Closed) => true,
-        _ => false,
+    match came {
+        Came::Piece(bytes) => is_piece(taken, bytes),
+        Came::Round(round) => Answer::to_take(taken) == Answer::Round(round),
+        Came::Closed => Answer::to_take(taken) == Answer::Closed,
     }
+}
+
+/// Whether this comes from a neighbour.
+fn comes(ends: &mut ListEnds, from: Neighbour, came: Came<'_>) -> bool
+    requires nine { has (joints_in_lists ends.old) (record { 0 = 9 }) ≡ true }
+    requires two { has (joints_in_lists ends.old) (record { 0 = 2 }) ≡ true }
+    requires five { has (joints_in_lists ends.old) (record { 0 = 5 }) ≡ true }
+    ensures same { joints_in_lists ends.new ≡ joints_in_lists ends.old }
+{
+    let taken = take_of(ends, from);
+    is_taken(&taken, came)
 }
 
 /// Puts a mark to 2 and takes, in each turn: the first turn in which something else comes, and how many marks were
@@ -97,22 +107,31 @@ fn played(ends: &mut ListEnds, turns: &[(Neighbour, Came<'_>)]) -> (Option<usize
 {
     let mut accepted = 0usize;
     for (turn, (from, came)) in turns.iter().enumerate() {
-        if ends.put(PeerNo(2), Item::Round(3)).is_ok() {
+        if asking(ends, PeerNo(2), Asked::Send(3)) == Answer::Done {
             accepted = accepted.wrapping_add(1);
         }
-        let taken = take_of(ends, *from);
-        if !is_taken(&taken, *came) {
+        if !comes(ends, *from, *came) {
             return (Some(turn), accepted);
         }
     }
     (None, accepted)
 }
 
+/// What is played with new ends, where every N-th put is refused.
+fn played_where(alloc: Global, every: u64) -> Result<(Option<usize>, usize), AllocError> {
+    let mut ends = ends_of(alloc, every)?;
+    let played = played(&mut ends, TURNS);
+    Ok(played)
+}
+
 #[test]
 fn what_is_taken_is_what_was_given(rt: HostRuntime) -> Result<(), Fail> {
     for (every, accepted) in ACCEPTED {
-        let mut ends = ends_of(rt.alloc(), *every)?;
-        assert_eq!(rt; played(&mut ends, TURNS), (None, *accepted), "{every}");
+        assert_eq!(rt;
+            played_where(rt.alloc(), *every)?,
+            (None, *accepted),
+            "{every}"
+        );
     }
     Ok(())
 }
@@ -147,6 +166,8 @@ fn take_all_of_five(ends: &mut ListEnds) -> bool
 #[test]
 fn after_the_close_all_was_taken(rt: HostRuntime) -> Result<(), Fail> {
     let mut ends = ends_of(rt.alloc(), 2)?;
-    assert!(rt; take_all_of_five(&mut ends));
+    let is_over = take_all_of_five(&mut ends);
+    drop(ends);
+    assert!(rt; is_over);
     Ok(())
 }

@@ -1,23 +1,15 @@
 //! One link, and its two ends.
 ghost use Rattle.std.specs.Prelude.{◌≡◌, ◌≤◌, IfOk, length};
-ghost use Rattle.gs_link.specs.Items.{IsSendable};
+ghost use Rattle.gs_link.specs.Items.{IsCapacity, IsSendable};
 
-use bytes::Bytes;
-use gs_link::{
-    CloseRefused, Item, LinkFault, LinkRx, LinkTx, SendRefused, Settled, Taken, is_capacity,
-    open_link, settle,
+use crate::tests::ends::answers::{
+    Answer, Asked, closing, gets_piece, piece, sending, sends, taking,
 };
+use bytes::Bytes;
+use gs_link::{Item, LinkFault, LinkRx, LinkTx, SendRefused, is_capacity, open_link, settle};
 use std::alloc::{AllocError, Global};
 use std::sync::Wait;
 use std::test::*;
-
-fn piece(alloc: Global, bytes: &[u8]) -> Result<Item, AllocError>
-    requires { (1 ≤ length bytes.now) × (length bytes.now ≤ 64) }
-    ensures { IfOk result IsSendable }
-{
-    let bytes = Bytes::copy_from_slice(alloc, bytes)?;
-    Ok(Item::Piece(bytes))
-}
 
 /// The bytes of a longest piece.
 static LONGEST: [u8; 64] = [255; 64];
@@ -28,59 +20,6 @@ pub fn narrow(alloc: Global) -> Result<(LinkTx, LinkRx), LinkFault>
 {
     let ends = open_link(alloc, 1)?;
     Ok(ends)
-}
-
-/// What `take` answered, if it is a piece.
-pub fn bytes_of(taken: Taken) -> Option<Bytes> {
-    match taken {
-        Taken::Got(Item::Piece(bytes)) => Some(bytes),
-        _ => None,
-    }
-}
-
-/// What the ends of a link are asked, one after the other.
-#[derive(Clone, Copy)]
-enum Asked {
-    Send(u64),
-    Close,
-    Take,
-}
-
-/// What they answer. An item that is refused is handed back.
-#[derive(Clone, Copy, PartialEq, Eq)]
-enum Answer {
-    Done,
-    Full,
-    Closed,
-    Empty,
-    Round(u64),
-    Other,
-}
-
-fn sending<R: Wait>(rt: &R, tx: &mut LinkTx, round: u64) -> Answer {
-    match tx.send(rt, Item::Round(round)) {
-        Ok(()) => Answer::Done,
-        Err(SendRefused::Full(Item::Round(back))) if back == round => Answer::Full,
-        Err(SendRefused::Closed(Item::Round(back))) if back == round => Answer::Closed,
-        Err(_) => Answer::Other,
-    }
-}
-
-fn closing<R: Wait>(rt: &R, tx: &mut LinkTx) -> Answer {
-    match tx.close(rt) {
-        Ok(()) => Answer::Done,
-        Err(CloseRefused::Full) => Answer::Full,
-        Err(CloseRefused::Closed) => Answer::Closed,
-    }
-}
-
-fn taking<R: Wait>(rt: &R, rx: &mut LinkRx) -> Answer {
-    match rx.take(rt) {
-        Taken::Got(Item::Round(round)) => Answer::Round(round),
-        Taken::Got(Item::Piece(_)) => Answer::Other,
-        Taken::Empty => Answer::Empty,
-        Taken::Closed => Answer::Closed,
-    }
 }
 
 fn answered<R: Wait>(rt: &R, tx: &mut LinkTx, rx: &mut LinkRx, asked: Asked) -> Answer {
@@ -103,46 +42,100 @@ fn right<R: Wait>(rt: &R, tx: &mut LinkTx, rx: &mut LinkRx, steps: &[(Asked, Ans
     right
 }
 
-/// Whether a piece is taken as it was sent, and nothing before it.
-fn passes<R: Wait>(rt: &R, tx: &mut LinkTx, rx: &mut LinkRx, piece: Item, bytes: &[u8]) -> bool
-    requires { IsSendable piece }
+/// How many of these, from the first on, a new link answers so.
+fn right_of_new<R: Wait>(
+    rt: &R,
+    alloc: Global,
+    capacity: usize,
+    steps: &[(Asked, Answer)],
+) -> Result<usize, LinkFault>
+    requires { IsCapacity capacity }
 {
-    if rx.take(rt) != Taken::Empty || tx.send(rt, piece).is_err() {
-        return false;
-    }
-    match bytes_of(rx.take(rt)) {
-        Some(taken) => taken.as_slice() == bytes,
-        None => false,
-    }
+    let (mut tx, mut rx) = open_link(alloc, capacity)?;
+    let right = right(rt, &mut tx, &mut rx, steps);
+    Ok(right)
+}
+
+/// Whether a piece of these bytes is taken as it was sent, and nothing before it.
+fn passes<R: Wait>(
+    rt: &R,
+    alloc: Global,
+    tx: &mut LinkTx,
+    rx: &mut LinkRx,
+    bytes: &[u8],
+) -> Result<bool, AllocError>
+    requires { (1 ≤ length bytes.now) × (length bytes.now ≤ 64) }
+{
+    let piece = piece(alloc, bytes)?;
+    let is_empty = taking(rt, rx) == Answer::Empty;
+    let is_sent = sends(rt, tx, piece);
+    Ok(is_empty && is_sent && gets_piece(rt, rx, bytes))
+}
+
+/// Whether a short and a longest piece pass.
+fn both_pass<R: Wait>(
+    rt: &R,
+    alloc: Global,
+    tx: &mut LinkTx,
+    rx: &mut LinkRx,
+) -> Result<bool, AllocError> {
+    let short = passes(rt, alloc, tx, rx, b"\x07\x0a\x05")?;
+    let long = passes(rt, alloc, tx, rx, &LONGEST)?;
+    Ok(short && long)
 }
 
 #[test]
 fn a_piece_that_was_sent_is_taken(rt: HostRuntime) -> Result<(), Fail> {
-    let short = piece(rt.alloc(), b"\x07\x0a\x05")?;
-    let long = piece(rt.alloc(), &LONGEST)?;
     let (mut tx, mut rx) = narrow(rt.alloc())?;
-    assert!(rt; passes(&rt, &mut tx, &mut rx, short, b"\x07\x0a\x05"));
-    assert!(rt; passes(&rt, &mut tx, &mut rx, long, &LONGEST));
+    let passed = both_pass(&rt, rt.alloc(), &mut tx, &mut rx);
+    drop(tx);
+    drop(rx);
+    assert!(rt; passed?);
     Ok(())
 }
 
 /// Whether a piece comes back from a link in which something waits.
-fn comes_back<R: Wait>(rt: &R, tx: &mut LinkTx, piece: Item, bytes: &[u8]) -> bool
-    requires { IsSendable piece }
+fn comes_back<R: Wait>(
+    rt: &R,
+    alloc: Global,
+    tx: &mut LinkTx,
+    bytes: &[u8],
+) -> Result<bool, AllocError>
+    requires { (1 ≤ length bytes.now) × (length bytes.now ≤ 64) }
 {
-    match tx.send(rt, piece) {
+    let piece = piece(alloc, bytes)?;
+    let sent = tx.send(rt, piece);
+    Ok(is_back(&sent, bytes))
+}
+
+/// Whether a piece of these bytes was handed back by a full link.
+fn is_back(sent: &Result<(), SendRefused>, bytes: &[u8]) -> bool {
+    match sent {
         Err(SendRefused::Full(Item::Piece(back))) => back.as_slice() == bytes,
         _ => false,
     }
 }
 
+/// Whether a link of one slot takes one mark and no piece, and then one mark at a time.
+fn takes_one<R: Wait>(
+    rt: &R,
+    alloc: Global,
+    tx: &mut LinkTx,
+    rx: &mut LinkRx,
+) -> Result<bool, AllocError> {
+    let is_sent = sending(rt, tx, 1) == Answer::Done;
+    let is_back = comes_back(rt, alloc, tx, b"abc")?;
+    let are_right = right(rt, tx, rx, &ONE_AT_A_TIME) == 4;
+    Ok(is_sent && is_back && are_right)
+}
+
 #[test]
 fn a_link_of_one_slot_is_full_with_one(rt: HostRuntime) -> Result<(), Fail> {
-    let refused = piece(rt.alloc(), b"abc")?;
     let (mut tx, mut rx) = narrow(rt.alloc())?;
-    assert!(rt; tx.send(&rt, Item::Round(1)).is_ok());
-    assert!(rt; comes_back(&rt, &mut tx, refused, b"abc"));
-    assert_eq!(rt; right(&rt, &mut tx, &mut rx, &ONE_AT_A_TIME), 4);
+    let taken = takes_one(&rt, rt.alloc(), &mut tx, &mut rx);
+    drop(tx);
+    drop(rx);
+    assert!(rt; taken?);
     Ok(())
 }
 
@@ -175,7 +168,10 @@ fn takes_1024<R: Wait>(rt: &R, tx: &mut LinkTx, rx: &mut LinkRx) -> bool {
 #[test]
 fn a_link_of_1024_slots_is_full_with_1024(rt: HostRuntime) -> Result<(), Fail> {
     let (mut tx, mut rx) = open_link(rt.alloc(), 1_024)?;
-    assert!(rt; takes_1024(&rt, &mut tx, &mut rx));
+    let are_taken = takes_1024(&rt, &mut tx, &mut rx);
+    drop(tx);
+    drop(rx);
+    assert!(rt; are_taken);
     Ok(())
 }
 
@@ -194,8 +190,7 @@ static AFTER_THE_CLOSE: [(Asked, Answer); 10] = [
 
 #[test]
 fn after_the_close_all_is_closed_again_and_again(rt: HostRuntime) -> Result<(), Fail> {
-    let (mut tx, mut rx) = open_link(rt.alloc(), 3)?;
-    assert_eq!(rt; right(&rt, &mut tx, &mut rx, &AFTER_THE_CLOSE), 10);
+    assert_eq!(rt; right_of_new(&rt, rt.alloc(), 3, &AFTER_THE_CLOSE)?, 10);
     Ok(())
 }
 
@@ -211,22 +206,48 @@ static CLOSE_IN_ONE: [(Asked, Answer); 7] = [
 
 #[test]
 fn the_close_takes_one_slot(rt: HostRuntime) -> Result<(), Fail> {
-    let (mut tx, mut rx) = narrow(rt.alloc())?;
-    assert_eq!(rt; right(&rt, &mut tx, &mut rx, &CLOSE_IN_ONE), 7);
+    assert_eq!(rt; right_of_new(&rt, rt.alloc(), 1, &CLOSE_IN_ONE)?, 7);
     Ok(())
+}
+
+/// Whether a link accepts a piece and then a mark.
+fn accepts_both<R: Wait>(rt: &R, tx: &mut LinkTx, piece: Item) -> bool
+    requires { IsSendable piece }
+{
+    sends(rt, tx, piece) && sending(rt, tx, 0) == Answer::Done
+}
+
+/// Whether nothing else holds these bytes: first, after the drop of one end, and after the drop of both.
+fn are_unique(kept: &Bytes, tx: LinkTx, rx: LinkRx) -> [bool; 3] {
+    let first = kept.is_unique();
+    drop(tx);
+    let after_one = kept.is_unique();
+    drop(rx);
+    [first, after_one, kept.is_unique()]
+}
+
+/// Whether a piece of these bytes and a mark wait in a link, until both of its ends are dropped.
+fn waits_for_the_drop<R: Wait>(
+    rt: &R,
+    alloc: Global,
+    kept: &Bytes,
+    piece: Item,
+) -> Result<bool, LinkFault>
+    requires { IsSendable piece }
+{
+    let (mut tx, rx) = open_link(alloc, 2)?;
+    let are_accepted = accepts_both(rt, &mut tx, piece);
+    let unique = are_unique(kept, tx, rx);
+    Ok(are_accepted && unique == [false, false, true])
 }
 
 #[test]
 fn what_waits_is_dropped_with_its_link(rt: HostRuntime) -> Result<(), Fail> {
     let kept = Bytes::copy_from_slice(rt.alloc(), b"news")?;
-    let (mut tx, rx) = open_link(rt.alloc(), 2)?;
-    assert!(rt; tx.send(&rt, Item::Piece(kept.clone()?)).is_ok());
-    assert!(rt; tx.send(&rt, Item::Round(0)).is_ok());
-    assert!(rt; !kept.is_unique());
-    drop(tx);
-    assert!(rt; !kept.is_unique());
-    drop(rx);
-    assert!(rt; kept.is_unique());
+    let piece = Item::Piece(kept.clone()?);
+    let has_waited = waits_for_the_drop(&rt, rt.alloc(), &kept, piece);
+    drop(kept);
+    assert!(rt; has_waited?);
     Ok(())
 }
 
@@ -235,10 +256,10 @@ fn takes_all<R: Wait>(rt: &R, tx: &mut LinkTx, rx: &mut LinkRx) -> bool
     ensures sender { tx.new.link ≡ tx.old.link }
     ensures receiver { rx.new.link ≡ rx.old.link }
 {
-    let sent = tx.send(rt, Item::Round(0)).is_ok();
-    let closed = tx.close(rt).is_ok();
-    let round = rx.take(rt) == Taken::Got(Item::Round(0));
-    let end = rx.take(rt) == Taken::Closed;
+    let sent = sending(rt, tx, 0) == Answer::Done;
+    let closed = closing(rt, tx) == Answer::Done;
+    let round = taking(rt, rx) == Answer::Round(0);
+    let end = taking(rt, rx) == Answer::Closed;
     sent && closed && round && end
 }
 
@@ -247,34 +268,75 @@ fn a_link_whose_close_was_taken_is_whole(rt: HostRuntime) -> Result<(), Fail> {
     let (mut tx, mut rx) = open_link(rt.alloc(), 2)?;
     let are_taken = takes_all(&rt, &mut tx, &mut rx);
     let settled = settle(&rt, tx, rx);
-    assert!(rt; are_taken);
-    assert_eq!(rt; settled, Settled { whole: true });
+    assert!(rt; are_taken && settled.whole);
     Ok(())
+}
+
+/// Whether a link accepts a piece and then the close.
+fn accepts_the_last<R: Wait>(rt: &R, tx: &mut LinkTx, piece: Item) -> bool
+    requires { IsSendable piece }
+    ensures { tx.new.link ≡ tx.old.link }
+{
+    let is_sent = sends(rt, tx, piece);
+    let is_closed = closing(rt, tx) == Answer::Done;
+    is_sent && is_closed
+}
+
+/// Whether a link is unfinished in which this piece and the close wait.
+fn is_unfinished<R: Wait>(rt: &R, alloc: Global, piece: Item) -> Result<bool, LinkFault>
+    requires { IsSendable piece }
+{
+    let (mut tx, rx) = open_link(alloc, 2)?;
+    let is_sent = accepts_the_last(rt, &mut tx, piece);
+    let settled = settle(rt, tx, rx);
+    Ok(is_sent && !settled.whole)
+}
+
+/// Whether an unused link is whole.
+fn is_unused_whole<R: Wait>(rt: &R, alloc: Global) -> Result<bool, LinkFault> {
+    let (tx, rx) = narrow(alloc)?;
+    Ok(settle(rt, tx, rx).whole)
 }
 
 #[test]
 fn a_link_whose_close_waits_is_unfinished(rt: HostRuntime) -> Result<(), Fail> {
     let kept = Bytes::copy_from_slice(rt.alloc(), b"news")?;
     let piece = Item::Piece(kept.clone()?);
-    let (mut tx, rx) = open_link(rt.alloc(), 2)?;
-    let is_sent = tx.send(&rt, piece).is_ok() && tx.close(&rt).is_ok();
-    let settled = settle(&rt, tx, rx);
-    assert!(rt; is_sent && kept.is_unique());
-    assert_eq!(rt; settled, Settled { whole: false });
-    let (tx, rx) = narrow(rt.alloc())?;
-    assert_eq!(rt; settle(&rt, tx, rx), Settled { whole: false });
+    let is_unfinished = is_unfinished(&rt, rt.alloc(), piece);
+    let is_dropped = kept.is_unique();
+    drop(kept);
+    assert!(rt; is_unfinished? && is_dropped);
+    assert!(rt; !is_unused_whole(&rt, rt.alloc())?);
     Ok(())
+}
+
+/// Whether a piece of this many bytes may be sent.
+fn is_sendable_at(alloc: Global, length: usize) -> Result<bool, AllocError> {
+    let bytes = Bytes::from_vec(Vec::from_elem(alloc, 0u8, length)?)?;
+    let piece = Item::Piece(bytes);
+    Ok(piece.is_sendable())
+}
+
+/// Whether pieces around the shortest and the longest length may be sent.
+fn are_sendable(alloc: Global) -> Result<[bool; 4], AllocError> {
+    Ok([
+        is_sendable_at(alloc, 0)?,
+        is_sendable_at(alloc, 1)?,
+        is_sendable_at(alloc, 64)?,
+        is_sendable_at(alloc, 65)?,
+    ])
 }
 
 #[test]
 fn capacities_and_pieces_have_their_sizes(rt: HostRuntime) -> Result<(), Fail> {
-    for (capacity, may) in [(0, false), (1, true), (1_024, true), (1_025, false)] {
-        assert_eq!(rt; is_capacity(capacity), may, "at {capacity}");
-    }
-    for (length, may) in [(0usize, false), (1, true), (64, true), (65, false)] {
-        let bytes = Bytes::from_vec(Vec::from_elem(rt.alloc(), 0u8, length)?)?;
-        assert_eq!(rt; Item::Piece(bytes).is_sendable(), may, "at {length}");
-    }
+    let capacities = [
+        is_capacity(0),
+        is_capacity(1),
+        is_capacity(1_024),
+        is_capacity(1_025),
+    ];
+    assert!(rt; capacities == [false, true, true, false]);
+    assert!(rt; are_sendable(rt.alloc())? == [false, true, true, false]);
     assert!(rt; Item::Round(u64::MAX).is_sendable());
     Ok(())
 }

@@ -1,5 +1,0 @@
-use Rattle.gs_ends.proofs.Apart.{one_alone}
-use Rattle.gs_run_tests.proofs.tests.ends.ends.links_refuse_what_is_past_their_room_or_their_close.Goals as goal
-
-pub new-ends-requires : goal.new-ends-requires
-new-ends-requires g c = record { apart = one_alone _ _ c.in_ok-vec.ensures.items }
