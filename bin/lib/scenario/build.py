@@ -201,6 +201,7 @@ def scenario_of(description, options, say):
         comments = presets.apply(scenario, description, source, options, say)
     except Fault as it:
         raise Faults([it], True) from None
+    groups.draw_phases(scenario)
     return scenario, comments, origins
 
 

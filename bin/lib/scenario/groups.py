@@ -2,11 +2,13 @@
 from . import networks
 from .draws import Draws
 from .fault import Fault, no_such
-from .fields import Fields, is_name
+from .fields import Fields, is_name, milliseconds_of, shown
 from .plain import Limits
 
-GROUP = "prefix count network dials dials_each address addresses app_score explicit topics from until stagger".split()
+GROUP = "prefix count network dials dials_each address addresses app_score explicit phase topics from until stagger".split()
 TOPIC_TIME = "name from until".split()
+# The most milliseconds that a peer may have been up when round 0 begins.
+MOST_PHASE = 10**9
 NETWORK = "kind degree rewire clusters bridges hub dialer seed".split()
 KINDS = "ring line star full random small_world clusters".split()
 # The keys of each kind besides `kind`, `dialer` and `seed`.
@@ -42,14 +44,37 @@ def addresses_of(fields, names):
     return [f"{fields.text('prefix')}-{place % many + 1}" for place in range(len(names))]
 
 
+def phase_in(world, fields):
+    """For how many milliseconds each peer of a group had been up when round 0 began: "random", or None where nothing is said."""
+    if not fields.has("phase") or fields.table["phase"] == "random":
+        return fields.table.get("phase")
+    if isinstance(fields.table["phase"], str) and milliseconds_of(fields.table["phase"]) is None:
+        fields.fail("phase", f'{shown(fields.table["phase"])} is neither "random" nor a time, such as "300 ms"')
+    phase = fields.moment("phase") * world.setting.round_ms
+    if phase > MOST_PHASE:
+        fields.fail("phase", f"{phase} ms is more than {MOST_PHASE}")
+    return phase
+
+
+def draw_phases(scenario):
+    """Draws the phases that are random: whole rounds, less than a heartbeat. (The parameters are known by then.)"""
+    heartbeat = scenario.get("params", {}).get("heartbeat_ms", 1_000)
+    draws = Draws(scenario["seed"], "phase")
+    for table in scenario["peer"]:
+        if table.get("phase_ms") == "random":
+            table["phase_ms"] = draws.below(max(1, heartbeat // scenario["round_ms"])) * scenario["round_ms"]
+
+
 def add_group(world, fields):
     """Adds the peers of a group."""
     names, prefix = member_names(fields), fields.text("prefix")
     if prefix in world.groups or fields.has("count") and prefix in world.peers:
         fields.fail("prefix", f'there is a peer or a group "{prefix}" already')
-    is_in_network = fields.truth("network", True)
+    is_in_network, phase = fields.truth("network", True), phase_in(world, fields)
     for name, address in zip(names, addresses_of(fields, names)):
         table = {"name": name} if address is None else {"name": name, "address": address}
+        if phase is not None:
+            table["phase_ms"] = phase
         world.add_peer((*fields.path, "prefix"), table, is_in_network)
     world.groups[prefix] = names
     return names

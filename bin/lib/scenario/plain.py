@@ -28,7 +28,7 @@ TOPIC = (
     "name topic_weight w1 w2 w3 w3b w4 p2_decay p3_decay p3b_decay p4_decay p1_cap p2_cap p3_cap p3_threshold p1_quantum_ms "
     "p3_window_ms p3_activation_ms reject ignore"
 ).split()
-PEER, DIAL = "name address words".split(), "from to".split()
+PEER, DIAL = "name address words phase_ms".split(), "from to".split()
 APP, EXPLICIT = "peer about value".split(), "peer about".split()
 DO = "what at peer topic to hex".split()
 # What a line has besides `what`, `at` and `peer`, by what it does.

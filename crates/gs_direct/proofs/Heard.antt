@@ -45,25 +45,25 @@ named_so plan p (q ∷ qs) = ap (λ (rest : List PeerNo). q ∷ rest) (named_so 
 -- ---- a round
 
 -- What is heard, the lines, what is due by the time, and the end of the round.
-pub round_runs : (now : Millis) (r : ℕ) (heard : List Todo) (lines : List (ℕ × Line)) (old a b d e : RouterView) (s sa sb sd se : SeededState)
+pub round_runs : (now clock : Millis) (r : ℕ) (heard : List Todo) (lines : List (ℕ × Line)) (old a b d e : RouterView) (s sa sb sd se : SeededState)
     (more : List RefusedLine) (told : Result (Unit {0}) RouterFault)
     → Runs (exact seeded_word seeded_after) now heard old s a sa []
     → Runs (exact seeded_word seeded_after) now (own_lines r lines) a sa b sb more
-    → Runs (exact seeded_word seeded_after) now (decays_in b.peer r now ++ beats_in b.peer r now) b sb d sd []
+    → Runs (exact seeded_word seeded_after) now (decays_in b.peer r clock ++ beats_in b.peer r clock) b sb d sd []
     → IsOk told
     → Calls (exact seeded_word seeded_after) (Some (RoundEnd r)) now d sd told e se
-    → Runs (exact seeded_word seeded_after) now (heard ++ behind_heard old.peer r now lines) old s e se more
-round_runs now r heard lines old a b d e s sa sb sd se more told hears follows due ok calls =
+    → Runs (exact seeded_word seeded_after) now (heard ++ behind_heard old.peer r clock lines) old s e se more
+round_runs now clock r heard lines old a b d e s sa sb sd se more told hears follows due ok calls =
     let m = exact seeded_word seeded_after in
     let same : b.peer ≡ old.peer = follows.peer ∙ hears.peer in
-    let kept : Runs m now (decays_in old.peer r now ++ beats_in old.peer r now) b sb d sd [] =
-    subst (λ (q : Peer). Runs m now (decays_in q r now ++ beats_in q r now) b sb d sd []) same due in
+    let kept : Runs m now (decays_in old.peer r clock ++ beats_in old.peer r clock) b sb d sd [] =
+    subst (λ (q : Peer). Runs m now (decays_in q r clock ++ beats_in q r clock) b sb d sd []) same due in
     let ends : Runs m now (EndRound r ∷ []) d sd e se [] = told_runs m now (EndRound r) (Some (RoundEnd r)) d e sd se told ok refl refl kept.runs_on calls in
-    let timed = runs_then m now (decays_in old.peer r now ++ beats_in old.peer r now) (EndRound r ∷ []) b d e sb sd se [] [] kept ends in
-    let last = subst (λ (todos : List Todo). Runs m now todos b sb e se []) (append_assoc (decays_in old.peer r now) (beats_in old.peer r now) (EndRound r ∷ [])) timed in
-    let rest = runs_then m now (own_lines r lines) (decays_in old.peer r now ++ (beats_in old.peer r now ++ EndRound r ∷ [])) a b e sa sb se more [] follows last in
-    let all = runs_then m now heard (behind_heard old.peer r now lines) old a e s sa se [] (more ++ []) hears rest in
-    subst (λ (xs : List RefusedLine). Runs m now (heard ++ behind_heard old.peer r now lines) old s e se xs) (append-nil more) all
+    let timed = runs_then m now (decays_in old.peer r clock ++ beats_in old.peer r clock) (EndRound r ∷ []) b d e sb sd se [] [] kept ends in
+    let last = subst (λ (todos : List Todo). Runs m now todos b sb e se []) (append_assoc (decays_in old.peer r clock) (beats_in old.peer r clock) (EndRound r ∷ [])) timed in
+    let rest = runs_then m now (own_lines r lines) (decays_in old.peer r clock ++ (beats_in old.peer r clock ++ EndRound r ∷ [])) a b e sa sb se more [] follows last in
+    let all = runs_then m now heard (behind_heard old.peer r clock lines) old a e s sa se [] (more ++ []) hears rest in
+    subst (λ (xs : List RefusedLine). Runs m now (heard ++ behind_heard old.peer r clock lines) old s e se xs) (append-nil more) all
 
 -- ---- to which neighbours
 

@@ -1,5 +1,5 @@
 -- The peers of a run, one after the other.
-use Rattle.std.proofs.Common.{◌≡◌, ◌≢◌, ◌≤◌, ◌<◌, ◌+◌, ◌*◌, ◌⊎◌, ℕ, zero, suc, pred, Bool, true, false, List, [], ◌∷◌, ◌++◌, length, set, get_or, Some, inl, inr, refl, sym, ap, ap₂, subst, subst₂, ◌∙◌, arith, true≢false, eq-or-lt_of_le}
+use Rattle.std.proofs.Common.{◌≡◌, ◌≢◌, ◌≤◌, ◌<◌, ◌+◌, ◌*◌, ◌^◌, ◌⊎◌, ℕ, zero, suc, pred, Bool, true, false, List, [], ◌∷◌, ◌++◌, length, set, get_or, Some, inl, inr, refl, sym, ap, ap₂, subst, subst₂, ◌∙◌, arith, true≢false, eq-or-lt_of_le}
 use Rattle.std.specs.Prelude.{slice_get, Vec}
 use Rattle.std.specs.List.{AllByRecursion, AllZip}
 use Rattle.std.specs.declared.alloc.Global.{Global}
@@ -22,7 +22,7 @@ use Rattle.gs_rules.proofs.Each.{each_weaker}
 use Rattle.gs_rules.proofs.Legality.{exact_is_free, legal_weakly}
 use Rattle.gs_router.specs.Router.{RouterView}
 use Rattle.gs_seats.specs.ListsByPeer.{list_at}
-use Rattle.gs_seats.specs.Rounds.{first_words, neighbours, numbers, peer_in, peer_no}
+use Rattle.gs_seats.specs.Rounds.{first_words, neighbours, numbers, peer_in, peer_no, phase_of}
 use Rattle.gs_seats.proofs.ByNumber.{as_many, at_number, each_kept}
 use Rattle.gs_seats.proofs.Joined.{IsJoined, neighbours_joined}
 use Rattle.gs_player.specs.Playing.{IsRunning}
@@ -68,6 +68,7 @@ one_begins plan peers p peer is =
     record {
       number = is.number;
       agenda = is.agenda;
+      phase = is.phase;
       router = ap (λ (v : RouterView). v.peer) is.router;
       running = ap (λ (v : RouterView). v.is_stopped) is.router;
       time = subst (λ (L : Entries). last_moment L ≤ 0 * plan.round_ms) (sym empty) (omega arith);
@@ -181,6 +182,10 @@ module _ {T : Type 0} (plan : Plan) (r : ℕ) (olds news : List (Peer T)) (mail 
 
   pub next_runs : (now : Millis) (d : Peer T) (index : ℕ) → index ≡ n → pred r * plan.round_ms ≤ now.0 → IsRunning now (get_or news index d).router
   next_runs now d index same late = subst (λ (x : Peer T). IsRunning now x.router) (sym (there d index same)) (runs_at plan r now olds (peer_no n) next.old late next.at)
+
+  pub next_small : (now : Millis) (d : Peer T) (index : ℕ) → index ≡ n → now.0 + phase_of plan (peer_no n) < 2 ^ 64 → now.0 + (get_or news index d).phase_ms < 2 ^ 64
+  next_small now d index same small =
+      subst (λ (x : Peer T). now.0 + x.phase_ms < 2 ^ 64) (sym (there d index same)) (subst (λ (k : ℕ). now.0 + k < 2 ^ 64) (sym next.at.phase) small)
 
   pub next_within : (count : ℕ) (d : Peer T) (index : ℕ) → index ≡ n → count ≡ length plan.peers → AllByRecursion (Within count) (get_or news index d).outlets.items
   next_within count d index same many =

@@ -13,7 +13,7 @@ use Rattle.gs_rules.specs.Peers.{Peer, links_of}
 use Rattle.gs_rules.specs.Tables.{Entries, up, up_after}
 use Rattle.gs_rules.specs.Legal.{Comes, Opens, losing}
 use Rattle.gs_rules.specs.Hearing.{ComesIn, Inbound}
-use Rattle.gs_rules.specs.Rounds.{AfterRounds, Does, Hear, HearFault, HearGone, Playing, Plays, Seat, Todo, agenda, beats_in, decays_in, EndRound, ending, hears, hears_of, is_broken, lines_at, moment_of, noted}
+use Rattle.gs_rules.specs.Rounds.{AfterRounds, Does, Hear, HearFault, HearGone, Playing, Plays, Seat, Todo, agenda, beats_in, decays_in, EndRound, ending, hears, hears_of, is_broken, lines_at, moment_of, noted, clock_of}
 use Rattle.gs_rules.proofs.Handled.{GoesOn, does_on}
 use Rattle.gs_rules.proofs.RoundEnds.{does_parts}
 use Rattle.gs_player.specs.Ended.{whole}
@@ -119,7 +119,7 @@ ended_now : (seat : Seat) (said : PeerNo → Said) (q : PeerNo) (r : ℕ) (K L :
 ended_now seat said q r K L refused ended among same plays =
     let comes : ComesIn r (said q) ended.inbound = subst (λ (n : ℕ). ComesIn n (said q) ended.inbound) same ended.comes in
     hears_are_down seat.peer (moment_of seat (Playing r)) (λ s x. ComesIn r (said s) x) q ended.inbound (links_of seat.peer) plays.inbound
-    (lines_at seat r ++ (decays_in seat.peer r (moment_of seat (Playing r)) ++ (beats_in seat.peer r (moment_of seat (Playing r)) ++ EndRound r ∷ [])))
+    (lines_at seat r ++ (decays_in seat.peer r (clock_of seat r) ++ (beats_in seat.peer r (clock_of seat r) ++ EndRound r ∷ [])))
     K L refused (λ y theirs. comes_alone r (said q) y ended.inbound theirs comes) ended.ends among plays.was_said plays.does
 
 -- in which round it is heard that a neighbour ends, it is not up after that

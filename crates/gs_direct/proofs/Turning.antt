@@ -29,13 +29,13 @@ use Rattle.gs_rules.proofs.Gathered.{gathered_after_rounds}
 use Rattle.gs_rules.proofs.Handled.{GoesOn, StandsOnce, distinct_once, does_on}
 use Rattle.gs_router.specs.Log.{this_round}
 use Rattle.gs_seats.specs.ListsByPeer.{list_at}
-use Rattle.gs_seats.specs.Rounds.{first_words, lines_in, neighbours, peer_in, peer_no, seat_in}
+use Rattle.gs_seats.specs.Rounds.{first_words, lines_in, neighbours, peer_in, peer_no, seat_in, phase_of}
 use Rattle.gs_seats.proofs.ByNumber.{as_many, at_number, zip_by_number}
 use Rattle.gs_seats.proofs.Joined.{IsJoined, joined_back, joined_both, neighbours_joined, of_joined}
 use Rattle.gs_seats.proofs.NeighbourLists.{links_ascend, links_in}
 use Rattle.gs_seats.proofs.Truths.{is_same}
 use Rattle.gs_player.specs.Ended.{whole}
-use Rattle.gs_player.specs.Playing.{behind_heard}
+use Rattle.gs_player.specs.Playing.{behind_heard, clock_at}
 use Rattle.gs_player.proofs.Growing.{rounds_stay}
 use Rattle.gs_player.proofs.Growing as growing
 use Rattle.gs_player.proofs.Middle.{IsRoundOf, round_of}
@@ -150,7 +150,7 @@ module _ {T : Type 0} (plan : Plan) (r : ℕ) (olds news : List (Peer T)) (mail 
     new_trace = ap (λ (x : Peer T). x.router.trace) m.turns.rest
 
     goes_on : GoesOn K L
-    goes_on = does_on m.old.router.peer now (all_heard (list_at mail p.0) ++ behind_heard m.old.router.peer r now m.old.agenda) K L m.turns.plays.more m.turns.plays.runs.does
+    goes_on = does_on m.old.router.peer now (all_heard (list_at mail p.0) ++ behind_heard m.old.router.peer r (clock_at m.old.phase_ms now) m.old.agenda) K L m.turns.plays.more m.turns.plays.runs.does
 
   -- more is said than before
   grows : (p q : PeerNo) → q.0 < length plan.peers → (more : Said) × (said_so_far news p q ≡ said_so_far olds p q ++ more)
@@ -207,9 +207,10 @@ module _ {T : Type 0} (plan : Plan) (r : ℕ) (olds news : List (Peer T)) (mail 
     plays : Plays (seat p m) said (Playing r) (K p m) (L p m) m.turns.plays.more
     plays =
         let links : links_of (peer_in plan p) ≡ neighbours plan p = links_in plan p in
-        let rest : List Todo = behind_heard (peer_in plan p) r now (lines_in plan p) in
+        let rest : List Todo = behind_heard (peer_in plan p) r (clock_at (phase_of plan p) now) (lines_in plan p) in
         let did : Does (peer_in plan p) now (all_heard (list_at mail p.0) ++ rest) (K p m) (L p m) m.turns.plays.more =
-        subst₂ (λ (x : RulesPeer) (lines : List _). Does x now (all_heard (list_at mail p.0) ++ behind_heard x r now lines) (K p m) (L p m) m.turns.plays.more) m.at.router m.at.agenda m.turns.plays.runs.does in
+        subst₂ (λ (x : RulesPeer) (lines : List _). Does x now (all_heard (list_at mail p.0) ++ behind_heard x r (clock_at (phase_of plan p) now) lines) (K p m) (L p m) m.turns.plays.more) m.at.router m.at.agenda
+        (subst (λ (k : ℕ). Does m.old.router.peer now (all_heard (list_at mail p.0) ++ behind_heard m.old.router.peer r (clock_at k now) m.old.agenda) (K p m) (L p m) m.turns.plays.more) m.at.phase m.turns.plays.runs.does) in
         let does : Does (peer_in plan p) now (hears (neighbours plan p) heard.inbound ++ rest) (K p m) (L p m) m.turns.plays.more =
         alike_does (peer_in plan p) now (K p m) (all_heard (list_at mail p.0) ++ rest) (hears (neighbours plan p) heard.inbound ++ rest) (K p m) (L p m) m.turns.plays.more
         (alike_append (K p m) (all_heard (list_at mail p.0)) (hears (neighbours plan p) heard.inbound) rest rest heard.alike (alike_same (K p m) rest)) ([], refl) did in
@@ -281,6 +282,7 @@ module _ {T : Type 0} (plan : Plan) (r : ℕ) (olds news : List (Peer T)) (mail 
         record {
           number = ap (λ (x : Peer T). x.number) m.turns.rest ∙ number_is;
           agenda = ap (λ (x : Peer T). x.agenda) m.turns.rest ∙ m.turns.plays.agenda ∙ m.at.agenda;
+          phase = ap (λ (x : Peer T). x.phase_ms) m.turns.rest ∙ m.turns.plays.phase ∙ m.at.phase;
           router = ap (λ (x : Peer T). x.router.peer) m.turns.rest ∙ m.turns.plays.runs.peer ∙ m.at.router;
           running = ap (λ (x : Peer T). x.router.is_stopped) m.turns.rest ∙ m.turns.plays.runs.runs_on.running;
           time = subst (λ (M : Entries). last_moment M ≤ r * plan.round_ms) (sym (new_trace p m)) m.turns.plays.runs.runs_on.time;

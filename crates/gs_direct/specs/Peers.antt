@@ -12,10 +12,10 @@ use Rattle.gs_rules.specs.Rounds.{Stop}
 use Rattle.gs_rules.specs.Results.{meshes_of, scores_of}
 use Rattle.gs_report.specs.declared.finished.Finished.{Finished}
 use Rattle.gs_seats.specs.ListsByPeer.{list_at}
-use Rattle.gs_seats.specs.Rounds.{first_words, lines_in, neighbours}
+use Rattle.gs_seats.specs.Rounds.{first_words, lines_in, neighbours, phase_of}
 use Rattle.gs_seats.specs.Routers.{new_router}
 use Rattle.gs_router.specs.Log.{this_round}
-use Rattle.gs_player.specs.Playing.{Runs, behind_heard}
+use Rattle.gs_player.specs.Playing.{Runs, behind_heard, clock_at}
 use Rattle.gs_direct.specs.declared.letter.Letter.{Letter}
 use Rattle.gs_direct.specs.declared.peer.Peer.{Peer}
 use Rattle.gs_direct.specs.Letters.{all_heard}
@@ -25,6 +25,7 @@ use Rattle.gs_direct.specs.Outlets.{IsHandedOver, IsNew, SaysAll, given}
 pub record IsNewPeer {T : Type 0} (plan : Plan) (p : PeerNo) (peer : Peer T) : Type 0 where
   pub number : peer.number ≡ p
   pub agenda : peer.agenda ≡ lines_in plan p
+  pub phase : peer.phase_ms ≡ phase_of plan p
   pub router : peer.router ≡ new_router plan p
   pub words : peer.words ≡ first_words plan p
   pub refused : peer.refused.items ≡ []
@@ -35,10 +36,11 @@ pub record IsNewPeer {T : Type 0} (plan : Plan) (p : PeerNo) (peer : Peer T) : T
 pub record PlaysRound {T : Type 0} (r : ℕ) (now : Millis) (letters : List Letter) (old new : Peer T) : Type 0 where
   pub number : new.number ≡ old.number
   pub agenda : new.agenda ≡ old.agenda
+  pub phase : new.phase_ms ≡ old.phase_ms
   pub more : List RefusedLine
   pub refused : new.refused.items ≡ old.refused.items ++ more
   pub runs : Runs (exact seeded_word seeded_after) now
-      (all_heard letters ++ behind_heard old.router.peer r now old.agenda)
+      (all_heard letters ++ behind_heard old.router.peer r (clock_at old.phase_ms now) old.agenda)
       old.router old.words new.router new.words more
   pub tells : AllZip (SaysAll (reverse (this_round new.router.trace))) old.outlets.items new.outlets.items
 

@@ -20,7 +20,7 @@ use Rattle.gs_rules.specs.Saying.{out}
 use Rattle.gs_rules.specs.Hearing.{ComesIn, Inbound}
 use Rattle.gs_rules.specs.Rounds.{AfterRounds, Closing, Hear, hears_of, is_broken, moment_of}
 use Rattle.gs_seats.specs.ListsByPeer.{list_at}
-use Rattle.gs_seats.specs.Rounds.{first_words, lines_in, neighbours, numbers, peer_in, peer_no, seat_in}
+use Rattle.gs_seats.specs.Rounds.{first_words, lines_in, neighbours, numbers, peer_in, peer_no, seat_in, phase_of}
 use Rattle.gs_player.specs.Ended.{whole}
 use Rattle.gs_player.specs.Words.{StandsAfter}
 use Rattle.gs_direct.specs.declared.letter.Letter.{Letter}
@@ -68,6 +68,7 @@ pub record IsReady (r : ℕ) (L : Entries) (o : Outlet) : Type 0 where
 pub record IsAt {T : Type 0} (plan : Plan) (r : ℕ) (peers : List (Peer T)) (p : PeerNo) (peer : Peer T) : Type 0 where
   pub number : peer.number ≡ p
   pub agenda : peer.agenda ≡ lines_in plan p
+  pub phase : peer.phase_ms ≡ phase_of plan p
   pub router : peer.router.peer ≡ peer_in plan p
   pub running : peer.router.is_stopped ≡ false
   pub time : last_moment peer.router.trace ≤ pred r * plan.round_ms

@@ -1,5 +1,5 @@
 //! One peer of a run, between two rounds.
-ghost use Rattle.std.specs.Prelude.{◌≡◌, [], false, true, IfOk, OnOk, length, map};
+ghost use Rattle.std.specs.Prelude.{◌≡◌, ◌<◌, ◌+◌, ◌^◌, [], false, true, IfOk, OnOk, length, map};
 ghost use Rattle.std.specs.List.{AllByRecursion};
 ghost use Rattle.gs_params.specs.Seeding.{seeded_after, seeded_word};
 ghost use Rattle.gs_plan.specs.Plans.{IsInRange};
@@ -22,7 +22,7 @@ use gs_player::{Agenda, decay_and_beat, follow_all, never_refused};
 use gs_report::{Finished, Remains};
 use gs_router::{Retention, Router, WholeTrace};
 use gs_rules::RefusedLine;
-use gs_seats::{first_words, router_of};
+use gs_seats::{first_words, phase_of, router_of};
 use std::alloc::{AllocError, Global};
 
 /// A peer between two rounds.
@@ -32,6 +32,8 @@ pub struct Peer<K: Retention> {
     pub number: PeerNo,
     /// Its lines of the script, by rounds.
     pub agenda: Agenda,
+    /// For how many milliseconds it had been up when round 0 began.
+    pub phase_ms: u64,
     pub router: Router<K>,
     /// Its random words.
     pub words: SeededWords,
@@ -66,6 +68,7 @@ impl<K: Retention> Peer<K> {
         Ok(Peer {
             number,
             agenda,
+            phase_ms: phase_of(plan, number),
             router,
             words,
             refused: Vec::new(alloc),
@@ -74,7 +77,7 @@ impl<K: Retention> Peer<K> {
     }
 
     /// Plays a round. The peer hears what its neighbours said in the round before, and follows its lines. It lowers the
-    /// counters of scores and has a heartbeat, each if it is due, and ends the round.
+    /// counters of scores and has a heartbeat, each if it is due by how long it has been up, and ends the round.
     ///
     /// # Errors
     /// `AllocError` when out of memory.
@@ -87,6 +90,7 @@ impl<K: Retention> Peer<K> {
     ) -> Result<(), AllocError>
         requires running { IsRunning now self.old.router }
         requires fit { LettersFit letters.items }
+        requires small { now.0 + self.old.phase_ms < 2 ^ 64 }
         ensures { OnOk result (PlaysRound round now letters.items self.old self.new) }
     {
         self.hear(letters, now)?;
@@ -97,7 +101,8 @@ impl<K: Retention> Peer<K> {
             self.agenda.at(round),
             now,
         )?;
-        decay_and_beat(&mut self.router, &mut self.words, round, now)?;
+        let clock = Millis(now.0 + self.phase_ms);
+        decay_and_beat(&mut self.router, &mut self.words, round, now, clock)?;
         never_refused(self.router.end_round(round, now, &mut self.words))?;
         tell_round(alloc, &mut self.outlets, &self.router)
     }

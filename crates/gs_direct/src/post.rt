@@ -1,5 +1,5 @@
 //! What is on its way between the peers of a run.
-ghost use Rattle.std.specs.Prelude.{◌≡◌, ◌≢◌, ◌<◌, ◌++◌, ℕ, List, [], IfOk, OnOk, length};
+ghost use Rattle.std.specs.Prelude.{◌≡◌, ◌≢◌, ◌<◌, ◌+◌, ◌^◌, ◌++◌, ℕ, List, [], IfOk, OnOk, length};
 ghost use Rattle.std.specs.List.{AllByRecursion};
 ghost use Rattle.gs_base.specs.declared.names.PeerNo.{PeerNo as PeerNoValue};
 ghost use Rattle.gs_seats.specs.ListsByPeer.{list_at};
@@ -72,6 +72,7 @@ impl Post {
     ) -> Result<(), AllocError>
         requires number { number.0 < length self.old.mail.items }
         requires running { IsRunning now peer.old.router }
+        requires small { now.0 + peer.old.phase_ms < 2 ^ 64 }
         requires fit { LettersFit (list_at self.old.mail.items number.0) }
         requires within { AllByRecursion (Within (length self.old.next.items)) peer.old.outlets.items }
         ensures turns { OnOk result ((gives : PeerNoValue → List LetterValue)

@@ -103,7 +103,7 @@ rest_of : Top → ℕ → ℕ → Read Plan
 rest_of top workers capacity = do
   shared ← shared_in top.round_ms (section_at params_key.name top.params)
   topics ← read_each topic_in [] top.topics
-  peers ← read_each peer_in [] top.peers
+  peers ← read_each (peer_in top.round_ms) [] top.peers
   dials ← read_each (dial_in peers) [] top.dials
   apps ← read_each (app_in peers dials) [] top.apps
   explicit ← read_each (agreement_in peers dials) [] top.explicit
@@ -137,7 +137,7 @@ unfolding rest_of
 rests_alike top workers other capacity another =
     then_alike (shared_in top.round_ms (section_at params_key.name top.params)) _ _ (λ shared.
     then_alike (read_each topic_in [] top.topics) _ _ (λ topics.
-    then_alike (read_each peer_in [] top.peers) _ _ (λ peers.
+    then_alike (read_each (peer_in top.round_ms) [] top.peers) _ _ (λ peers.
     then_alike (read_each (dial_in peers) [] top.dials) _ _ (λ dials.
     then_alike (read_each (app_in peers dials) [] top.apps) _ _ (λ apps.
     then_alike (read_each (agreement_in peers dials) [] top.explicit) _ _ (λ explicit.

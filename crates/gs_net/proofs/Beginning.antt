@@ -20,7 +20,7 @@ use Rattle.gs_net.proofs.Standing.{none_accepted, none_taken}
 
 begins_with : (plan : Plan) (p : PeerNo) (a : Assignment) (pairs : List Pair) → IsInRange plan → IsAssignedIn plan p a → AreUsable plan p pairs → MayBegin pair_ends a (new_router plan p) pairs
 begins_with plan p a pairs range is usable = record {
-  small = rw (is.round_ms, is.rounds) (time_fits plan range);
+  small = rw (is.round_ms, is.rounds, is.phase) (time_fits plan p range);
   neighbours = is.numbers ∙ sym (links_in plan p);
   ascending = links_ascend plan p;
   known = subst (AllByRecursion (λ (q : PeerNo). has (joints_of pairs) q ≡ true)) (sym (links_in plan p)) usable.known;
@@ -36,7 +36,7 @@ begins plan p a router pairs ends range is new same usable =
 
 -- at the peer's seat
 pub seated : (plan : Plan) (p : PeerNo) (a : Assignment) → IsAssignedIn plan p a → seat_with a (peer_in plan p) ≡ seat_in plan p
-seated plan p a is = rw (is.number, is.lines, is.round_ms, is.rounds) refl
+seated plan p a is = rw (is.number, is.lines, is.round_ms, is.rounds, is.phase) refl
 
 -- what is given of a task
 abbrev pub told : Seat → SeededState → List Joint → Option (Seat × SeededState × List Joint)

@@ -16,7 +16,7 @@ use Rattle.gs_workers.specs.Flags.{FlagId}
 use Rattle.gs_peer.specs.Task.{CanPoll, flag_of, given_of}
 use Rattle.gs_seats.specs.ListsByPeer.{list_at}
 use Rattle.gs_net.specs.Dials.{HasCapacity, IsFresh}
-use Rattle.gs_seats.specs.Rounds.{first_words, lines_in, neighbours, peer_no, seat_in}
+use Rattle.gs_seats.specs.Rounds.{first_words, lines_in, neighbours, peer_no, phase_of, seat_in}
 
 -- There are ends to and from each neighbour, and no neighbour stands twice. The links have the plan's capacity, and nothing has
 -- gone over them.
@@ -44,6 +44,7 @@ pub record IsAssignedIn (plan : Plan) (p : PeerNo) (a : Assignment) : Type 0 whe
   pub lines : a.lines ≡ lines_in plan p
   pub round_ms : a.round_ms ≡ plan.round_ms
   pub rounds : a.rounds ≡ plan.rounds
+  pub phase : a.phase_ms ≡ phase_of plan p
   -- the workers take turns
   pub worker : a.worker ≡ p.0 % plan.workers
 

@@ -14,7 +14,7 @@ use gs_link::{LinkRx, LinkTx};
 use gs_peer::{Assignment, Gate, PeerTask, Surroundings};
 use gs_plan::{Line, Plan};
 use gs_player::Agenda;
-use gs_seats::{NetFault, first_words, neighbours_of, router_of, take_list};
+use gs_seats::{NetFault, first_words, neighbours_of, phase_of, router_of, take_list};
 use gs_workers::StopFlag;
 use std::alloc::{AllocError, Global};
 use std::sync::{Arc, Mutex, Wait};
@@ -163,6 +163,7 @@ fn assignment_of(
         lines: Agenda::of(alloc, lines)?,
         round_ms: plan.round_ms,
         rounds: plan.rounds,
+        phase_ms: phase_of(plan, number),
         worker: (u64::from(number.0) % plan.workers) as usize,
     })
 }

@@ -18,7 +18,7 @@ use Rattle.gs_rules.specs.Modes.{exact, free}
 use Rattle.gs_rules.specs.Legal.{Comes, Legal, LegalOn}
 use Rattle.gs_rules.specs.Saying.{Outgoing, gathered, handled, out}
 use Rattle.gs_rules.specs.Hearing.{Spell, closes}
-use Rattle.gs_rules.specs.Rounds.{Seat, Phase, Playing, Closing, AfterRounds, ComesAt, Does, KeepsRounds, Stop, Todo, agenda, hears, moment_of}
+use Rattle.gs_rules.specs.Rounds.{Seat, Phase, Playing, Closing, AfterRounds, ComesAt, Does, KeepsRounds, Stop, Todo, agenda, hears, moment_of, clock_of}
 use Rattle.gs_rules.proofs.Gathered.{gathered_down}
 use Rattle.gs_rules.proofs.Handled.{does_handle, said_is_handled}
 use Rattle.gs_rules.proofs.Legality.{exact_is_free, legal_weakly}
@@ -38,7 +38,7 @@ use Rattle.gs_player.proofs.Since.{down_stays, out_no_more}
 
 -- what a seat has to do in a round after what was heard
 abbrev pub own_rest : Seat → ℕ → List Todo
-own_rest seat r = behind_heard seat.peer r (moment_of seat (Playing r)) seat.lines
+own_rest seat r = behind_heard seat.peer r (clock_of seat r) seat.lines
 
 module _ (seat : Seat) (said sent : PeerNo → Said) (boxes : Outboxes) (first : SeededState) (r : ℕ) (xs : List InboxView)
     (v w : RouterView) (s t : SeededState) (refused more : List RefusedLine)

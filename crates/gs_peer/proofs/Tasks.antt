@@ -10,7 +10,7 @@ use Rattle.gs_rules.specs.declared.refusal.RefusedLine.{RefusedLine}
 use Rattle.gs_rules.specs.Peers.{Peer, links_of}
 use Rattle.gs_rules.specs.Tables.{Entries}
 use Rattle.gs_rules.specs.Modes.{exact}
-use Rattle.gs_rules.specs.Rounds.{Seat, Stop, moment_of}
+use Rattle.gs_rules.specs.Rounds.{Seat, Stop, moment_of, clock_of}
 use Rattle.gs_rules.specs.Rounds as rounds
 use Rattle.gs_router.specs.Router.{RouterView}
 use Rattle.gs_ends.specs.Ends.{has}
@@ -64,17 +64,17 @@ module _ (seat : Seat) (said sent : PeerNo → Said) (phase : Phase) (r told : �
     (is : phase ≡ Playing r)
     (full : AllFull a.inboxes.items)
     (own : lines ≡ seat.lines)
-    (plays : PlaysRound r (moment_of seat (rounds.Playing r)) lines a b)
+    (plays : PlaysRound r (moment_of seat (rounds.Playing r)) (clock_of seat r) lines a b)
     (count : told ≡ length a.router.trace) where
   here : Kept seat said sent (rounds.Playing r) a.inboxes.items old a.router a.refused.items first a.words
   here = at_round seat said sent phase r a.inboxes.items old a.router a.refused.items first a.words is k
 
-  mine : PlaysRound r (moment_of seat (rounds.Playing r)) seat.lines a b
-  mine = subst (λ (ls : List (ℕ × Line)). PlaysRound r (moment_of seat (rounds.Playing r)) ls a b) own plays
+  mine : PlaysRound r (moment_of seat (rounds.Playing r)) (clock_of seat r) seat.lines a b
+  mine = subst (λ (ls : List (ℕ × Line)). PlaysRound r (moment_of seat (rounds.Playing r)) (clock_of seat r) ls a b) own plays
 
   -- by the seat's parameters
   runs : Runs (exact seeded_word seeded_after) (moment_of seat (rounds.Playing r)) (all_heard a.inboxes.items ++ own_rest seat r) a.router a.words b.router b.words mine.more
-  runs = subst (λ (p : Peer). Runs (exact seeded_word seeded_after) (moment_of seat (rounds.Playing r)) (all_heard a.inboxes.items ++ behind_heard p r (moment_of seat (rounds.Playing r)) seat.lines) a.router a.words b.router b.words mine.more) here.peer mine.runs
+  runs = subst (λ (p : Peer). Runs (exact seeded_word seeded_after) (moment_of seat (rounds.Playing r)) (all_heard a.inboxes.items ++ behind_heard p r (clock_of seat r) seat.lines) a.router a.words b.router b.words mine.more) here.peer mine.runs
 
   -- the next round begins
   pub plays_on : r < seat.rounds
@@ -126,7 +126,7 @@ module _ {G S : Type 0} (seen : EndsOf S) where
       let seat : seat_of u ≡ seat_of t = ap₂ seat_with given peer in
       record {
         kept = record {
-          small = subst (λ (a : Assignment). a.rounds * a.round_ms < 2 ^ 64) (sym given) k.small;
+          small = subst (λ (a : Assignment). a.rounds * a.round_ms + a.phase_ms < 2 ^ 64) (sym given) k.small;
           known = subst₂ (λ (e : S) (p : Peer). AllByRecursion (λ q. has (seen.joints e) q ≡ true) (links_of p)) (sym ends) (sym peer) k.known;
           kept = subst₂ (λ (s : Seat) (e : S). Kept s (words_of (seen.taken e)) (words_of (seen.accepted e)) (phase_of u.phase) u.player.inboxes.items u.outboxes u.player.router u.player.refused.items u.first.value u.player.words) (sym seat) (sym ends)
               (subst (λ (f : _). Kept (seat_of t) (words_of (seen.taken t.ends)) (words_of (seen.accepted t.ends)) (phase_of u.phase) u.player.inboxes.items u.outboxes u.player.router u.player.refused.items f.value u.player.words) (sym first) kept);

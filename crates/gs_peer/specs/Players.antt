@@ -9,12 +9,12 @@ use Rattle.gs_peer.specs.declared.player.Player.{Player}
 use Rattle.gs_peer.specs.Inboxes.{all_heard, in_next_phase}
 use Rattle.gs_player.specs.Playing.{Runs, behind_heard}
 
--- What came was heard, those of the lines that are for the round were followed, and the round was ended. Before its end
+-- A peer that has been up for `clock` plays a round at the moment `now`. What came was heard, those of the lines that are for the round were followed, and the round was ended. Before its end
 -- counters were lowered and a heartbeat came, each where it was due. The lines `more` were refused.
-pub record PlaysRound (r : ℕ) (now : Millis) (lines : List (ℕ × Line)) (old new : Player) : Type 0 where
+pub record PlaysRound (r : ℕ) (now clock : Millis) (lines : List (ℕ × Line)) (old new : Player) : Type 0 where
   pub more : List RefusedLine
   pub refused : new.refused.items ≡ old.refused.items ++ more
   pub runs : Runs (exact seeded_word seeded_after) now
-      (all_heard old.inboxes.items ++ behind_heard old.router.peer r now lines)
+      (all_heard old.inboxes.items ++ behind_heard old.router.peer r clock lines)
       old.router old.words new.router new.words more
   pub turns : new.inboxes.items ≡ map in_next_phase old.inboxes.items

@@ -1,5 +1,5 @@
 -- What a running task keeps, and what holds after a step of it.
-use Rattle.std.specs.Prelude.{◌≡◌, ◌<◌, ◌*◌, ◌^◌, ◌++◌, ℕ, true, false, List, [], length}
+use Rattle.std.specs.Prelude.{◌≡◌, ◌<◌, ◌+◌, ◌*◌, ◌^◌, ◌++◌, ℕ, true, false, List, [], length}
 use Rattle.std.specs.List.{AllByRecursion}
 use Rattle.gs_base.specs.declared.names.PeerNo.{PeerNo}
 use Rattle.gs_base.specs.Tokens.{Said}
@@ -26,7 +26,7 @@ use Rattle.gs_peer.specs.Phases.{phase_of}
 
 -- what a run gives the peer `p` that has this assignment
 abbrev pub seat_with : Assignment → Peer → Seat
-seat_with a p = record { number = a.number; peer = p; lines = a.lines; round_ms = a.round_ms; rounds = a.rounds }
+seat_with a p = record { number = a.number; peer = p; lines = a.lines; round_ms = a.round_ms; rounds = a.rounds; phase_ms = a.phase_ms }
 
 abbrev pub seat_of : {G S : Type 0} → Running G S → Seat
 seat_of t = seat_with t.assignment t.player.router.peer
@@ -51,7 +51,7 @@ TellsSince told L old new =
 module _ {S : Type 0} (seen : EndsOf S) where
   -- What a peer that has done nothing may be given.
   pub record MayBegin (a : Assignment) (router : RouterView) (ends : S) : Type 0 where
-    pub small : a.rounds * a.round_ms < 2 ^ 64
+    pub small : a.rounds * a.round_ms + a.phase_ms < 2 ^ 64
     pub neighbours : a.neighbours.items ≡ links_of router.peer
     pub ascending : IsAscending (links_of router.peer)
     pub known : AllByRecursion (λ q. has (seen.joints ends) q ≡ true) (links_of router.peer)
@@ -62,7 +62,7 @@ module _ {S : Type 0} (seen : EndsOf S) where
 
   -- What a running task keeps.
   pub record IsKept {G : Type 0} (t : Running G S) : Type 0 where
-    pub small : t.assignment.rounds * t.assignment.round_ms < 2 ^ 64
+    pub small : t.assignment.rounds * t.assignment.round_ms + t.assignment.phase_ms < 2 ^ 64
     -- there are ends to and from each neighbour
     pub known : AllByRecursion (λ q. has (seen.joints t.ends) q ≡ true) (links_of t.player.router.peer)
     pub kept : Kept (seat_of t) (words_of (seen.taken t.ends)) (words_of (seen.accepted t.ends)) (phase_of t.phase)

@@ -14,6 +14,8 @@ pub struct Assignment {
     pub round_ms: u64,
     /// The last round, where the first is 0: 1 to 100,000.
     pub rounds: u64,
+    /// For how many milliseconds it had been up when round 0 began: 0 to 10^9.
+    pub phase_ms: u64,
     /// The number of the worker on which it runs.
     pub worker: usize,
 }

@@ -1,17 +1,18 @@
-ghost use Rattle.std.specs.Prelude.{◌≡◌, [], ◌∷◌, OnOk};
+ghost use Rattle.std.specs.Prelude.{◌≡◌, ◌<◌, ◌+◌, ◌^◌, [], ◌∷◌, OnOk};
 ghost use Rattle.std.specs.List.{AllByRecursion};
 ghost use Rattle.gs_params.specs.Seeding.{seeded_after, seeded_word};
 ghost use Rattle.gs_rules.specs.Modes.{exact};
 ghost use Rattle.gs_rules.specs.Rounds.{Stop};
 ghost use Rattle.gs_peer.specs.Inboxes.{all_heard};
-ghost use Rattle.gs_player.specs.Playing.{IsRunning, Runs, RpcsFit};
+ghost use Rattle.gs_player.specs.Playing.{IsRunning, Runs, RpcsFit, clock_at};
 ghost use Rattle.gs_peer.specs.Players.{PlaysRound};
 
+use crate::assignment::Assignment;
 use crate::hearing;
 use crate::inbox::Inbox;
 use gs_base::Millis;
 use gs_params::SeededWords;
-use gs_player::{Agenda, decay_and_beat, follow_all, never_refused};
+use gs_player::{decay_and_beat, follow_all, never_refused};
 use gs_router::Router;
 use gs_rules::RefusedLine;
 use std::alloc::{AllocError, Global};
@@ -30,20 +31,22 @@ pub struct Player {
 
 impl Player {
     /// Plays a round: hears what came, follows the lines of the round, and ends the round. Before the end it lowers the
-    /// counters of scores if that is due, and then has a heartbeat if one is due.
+    /// counters of scores if that is due, and then has a heartbeat if one is due, by how long the peer has been up.
     ///
     /// # Errors
     /// `AllocError` if memory runs out.
     pub fn play(
         &mut self,
         alloc: Global,
-        agenda: &Agenda,
+        assignment: &Assignment,
         round: u64,
         now: Millis,
     ) -> Result<(), AllocError>
         requires running { IsRunning now self.old.router }
         requires fit { AllByRecursion (λ x. RpcsFit x.stage) self.old.inboxes.items }
-        ensures { OnOk result (PlaysRound round now agenda.now self.old self.new) }
+        requires small { now.0 + assignment.now.phase_ms < 2 ^ 64 }
+        ensures { OnOk result (PlaysRound round now (clock_at assignment.now.phase_ms now)
+            assignment.now.lines self.old self.new) }
     {
         hearing::hear(
             alloc,
@@ -56,10 +59,11 @@ impl Player {
             &mut self.router,
             &mut self.words,
             &mut self.refused,
-            agenda.at(round),
+            assignment.lines.at(round),
             now,
         )?;
-        decay_and_beat(&mut self.router, &mut self.words, round, now)?;
+        let clock = Millis(now.0 + assignment.phase_ms);
+        decay_and_beat(&mut self.router, &mut self.words, round, now, clock)?;
         never_refused(self.router.end_round(round, now, &mut self.words))?;
         Ok(())
     }

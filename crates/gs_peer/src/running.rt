@@ -237,8 +237,7 @@ impl<G: Gate, S: Ends> Running<G, S> {
         self.gate.begin_round(self.assignment.worker, round);
         let now = Millis(round * self.assignment.round_ms);
         let told = self.player.router.trace().entries().len();
-        self.player
-            .play(self.alloc, &self.assignment.lines, round, now)?;
+        self.player.play(self.alloc, &self.assignment, round, now)?;
         if round < self.assignment.rounds {
             tell_since(self.alloc, &mut self.outboxes, &self.player.router, told)?;
             self.phase = Phase::Playing(round + 1);

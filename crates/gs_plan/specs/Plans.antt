@@ -44,6 +44,10 @@ highest_capacity = 1_024
 abbrev pub longest_raw : ℕ
 longest_raw = 2_097_152
 
+-- the most milliseconds for which a peer had been up when round 0 began
+abbrev pub highest_phase : ℕ
+highest_phase = 1_000_000_000
+
 -- in millionths; the lowest score is its negative
 abbrev pub highest_app_score : ℤ
 highest_app_score = pos 1_000_000_000
@@ -146,6 +150,9 @@ pub record IsWithin (limits : Limits) (plan : Plan) : Type 0 where
   pub params : checked plan.params ≡ Ok plan.params
   pub heartbeat : plan.params.timing.heartbeat_ms % plan.round_ms ≡ 0
   pub decay : plan.params.timing.decay_ms % plan.round_ms ≡ 0
+  -- each peer had been up for whole rounds when round 0 began
+  pub phases : All (λ (peer : PlannedPeer). peer.phase_ms ≤ highest_phase) plan.peers
+  pub phases_take_rounds : All (λ (peer : PlannedPeer). peer.phase_ms % plan.round_ms ≡ 0) plan.peers
   -- a dial joins two peers of the plan, and no other dial joins them
   pub dials_from : All (λ (dial : Dial). IsOneOf plan.peers dial.from) plan.dials
   pub dials_to : All (λ (dial : Dial). IsOneOf plan.peers dial.to) plan.dials

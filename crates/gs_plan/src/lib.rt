@@ -7,7 +7,7 @@ mod words;
 
 pub use limits::{LONGEST_INPUT, Limits, MOST_PEERS};
 pub use plan::{
-    Act, App, Dial, Explicit, HIGHEST_APP_SCORE, LONGEST_RAW, LONGEST_ROUND, Line, MOST_ROUNDS,
-    Plan, PlannedPeer, are_joined, limits_of_plans,
+    Act, App, Dial, Explicit, HIGHEST_APP_SCORE, HIGHEST_PHASE, LONGEST_RAW, LONGEST_ROUND, Line,
+    MOST_ROUNDS, Plan, PlannedPeer, are_joined, limits_of_plans,
 };
 pub use words::{HANG_UP, PUBLISH, RAW, SUBSCRIBE, UNSUBSCRIBE, what_word};

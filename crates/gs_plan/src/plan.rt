@@ -1,5 +1,5 @@
 ghost use Rattle.std.specs.Prelude.{◌≡◌};
-ghost use Rattle.gs_plan.specs.Plans.{are_joined, highest_app_score, joins, longest_raw, longest_round, most_rounds};
+ghost use Rattle.gs_plan.specs.Plans.{are_joined, highest_app_score, highest_phase, joins, longest_raw, longest_round, most_rounds};
 ghost use Rattle.gs_plan.specs.Limits.{longest_input, most_peers};
 ghost use Rattle.gs_plan.specs.declared.limits.Limits.TheVariants.{Large};
 
@@ -17,6 +17,9 @@ pub const MOST_ROUNDS: u64 = 100_000;
 
 /// The most bytes that a line of the script puts on a link unchanged.
 pub const LONGEST_RAW: usize = 2_097_152;
+
+/// The most milliseconds for which a peer had been up when round 0 began.
+pub const HIGHEST_PHASE: u64 = 1_000_000_000;
 
 /// The highest score that an application gives, in millionths. The lowest is its negative.
 pub const HIGHEST_APP_SCORE: i64 = 1_000_000_000;
@@ -57,6 +60,9 @@ pub struct PlannedPeer {
     pub address: Text,
     /// Its first random words. Those of its generator come after them (`SeededWords`).
     pub words: Seq<u32>,
+    /// How long it had been up when round 0 began, in milliseconds: a multiple of `round_ms`, 0 to 10^9. Its heartbeats and
+    /// decays come by the time for which it has been up.
+    pub phase_ms: u64,
 }
 
 /// A connection of two peers, with a link in each direction. The first of the two dials.
@@ -163,5 +169,6 @@ pub fn limits_of_plans()
     ensures peers { MOST_PEERS ≡ most_peers Large }
     ensures input { LONGEST_INPUT ≡ longest_input Large }
     ensures raw { LONGEST_RAW ≡ longest_raw }
+    ensures phase { HIGHEST_PHASE ≡ highest_phase }
     ensures score { HIGHEST_APP_SCORE ≡ highest_app_score }
 {}

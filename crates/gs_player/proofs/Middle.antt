@@ -18,7 +18,7 @@ use Rattle.gs_rules.specs.Legal.{Comes, Legal}
 use Rattle.gs_rules.specs.Refusals.{refusal}
 use Rattle.gs_rules.specs.Saying.{Said}
 use Rattle.gs_rules.specs.Hearing.{Inbound}
-use Rattle.gs_rules.specs.Rounds.{AfterRounds, Beat, DecayCounters, Does, EndRound, Hear, HearFault, HearGone, Obey, Playing, Plays, Seat, Stop, Todo, agenda, beats_in, decays_in, ending, hears, hears_of, is_at, is_broken, is_due, lines_at, moment_of, obey, opening, unless_refused}
+use Rattle.gs_rules.specs.Rounds.{AfterRounds, Beat, DecayCounters, Does, EndRound, Hear, HearFault, HearGone, Obey, Playing, Plays, Seat, Stop, Todo, agenda, beats_in, decays_in, ending, hears, hears_of, is_at, is_broken, is_due, lines_at, moment_of, obey, opening, unless_refused, clock_of}
 use Rattle.gs_rules.proofs.Each.{each_mapped, of_each}
 use Rattle.gs_rules.proofs.Handled.{does_on, legal_then_before, payments_are_owed}
 use Rattle.gs_rules.proofs.Owed.{IsOwed}
@@ -126,26 +126,26 @@ timed_are_work todo false work = tt
 abbrev work_of : Seat → ℕ → List Inbound → List Todo
 work_of seat r xs =
     hears (links_of seat.peer) xs
-    ++ (lines_at seat r ++ (decays_in seat.peer r (moment_of seat (Playing r)) ++ beats_in seat.peer r (moment_of seat (Playing r))))
+    ++ (lines_at seat r ++ (decays_in seat.peer r (clock_of seat r) ++ beats_in seat.peer r (clock_of seat r)))
 
 all_is_work : (seat : Seat) (r : ℕ) (xs : List Inbound) → AllByRecursion IsWork (work_of seat r xs)
 all_is_work seat r xs =
-    let at : Millis = moment_of seat (Playing r) in
-    let decay : List Todo = decays_in seat.peer r at in
-    let beat : List Todo = beats_in seat.peer r at in
+    let clock : Millis = clock_of seat r in
+    let decay : List Todo = decays_in seat.peer r clock in
+    let beat : List Todo = beats_in seat.peer r clock in
     all-append IsWork (hears (links_of seat.peer) xs) (lines_at seat r ++ (decay ++ beat)) (hears_are_work (links_of seat.peer) xs)
     (all-append IsWork (lines_at seat r) (decay ++ beat) (lines_are_work (filter (is_at r) seat.lines))
     (all-append IsWork decay beat
-    (timed_are_work DecayCounters (is_due seat.peer.params.timing.decay_ms r at) tt)
-    (timed_are_work Beat (is_due seat.peer.params.timing.heartbeat_ms r at) tt)))
+    (timed_are_work DecayCounters (is_due seat.peer.params.timing.decay_ms r clock) tt)
+    (timed_are_work Beat (is_due seat.peer.params.timing.heartbeat_ms r clock) tt)))
 
 work_then_end : (seat : Seat) (r : ℕ) (xs : List Inbound) → agenda seat (Playing r) xs ≡ work_of seat r xs ++ EndRound r ∷ []
 work_then_end seat r xs =
-    let at : Millis = moment_of seat (Playing r) in
+    let clock : Millis = clock_of seat r in
     let heard : List Todo = hears (links_of seat.peer) xs in
     let lines : List Todo = lines_at seat r in
-    let decays : List Todo = decays_in seat.peer r at in
-    let beats : List Todo = beats_in seat.peer r at in
+    let decays : List Todo = decays_in seat.peer r clock in
+    let beats : List Todo = beats_in seat.peer r clock in
     let last : List Todo = EndRound r ∷ [] in
     sym (append_assoc heard (lines ++ (decays ++ beats)) last ∙ ap (λ (todos : List Todo). heard ++ todos) (append_assoc lines (decays ++ beats) last ∙ ap (λ (todos : List Todo). lines ++ todos) (append_assoc decays beats last)))
 

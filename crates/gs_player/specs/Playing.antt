@@ -1,5 +1,5 @@
 -- What a router has done after calls, one after the other.
-use Rattle.std.specs.Prelude.{◌≡◌, ◌≤◌, false, true, ℕ, List, [], ◌∷◌, ◌++◌, map, filter}
+use Rattle.std.specs.Prelude.{◌+◌, ◌≡◌, ◌≤◌, false, true, ℕ, List, [], ◌∷◌, ◌++◌, map, filter}
 use Rattle.std.specs.List.{AllByRecursion}
 use Rattle.gs_base.specs.declared.names.Millis.{Millis}
 use Rattle.gs_base.specs.declared.rpc.Rpc.{Rpc}
@@ -36,6 +36,10 @@ RpcsFit rpcs = AllByRecursion (λ rpc. codec.fits rpc ≡ true) rpcs
 abbrev pub own_lines : ℕ → List (ℕ × Line) → List Todo
 own_lines r lines = map obey (filter (is_at r) lines)
 
--- what there is to do in a round after what is heard
+-- for how long a peer of this phase has been up at a moment of the run
+abbrev pub clock_at : ℕ → Millis → Millis
+clock_at phase now = record { 0 = now.0 + phase }
+
+-- what there is to do in a round after what is heard, by how long the peer has been up
 abbrev pub behind_heard : Peer → ℕ → Millis → List (ℕ × Line) → List Todo
-behind_heard p r now lines = own_lines r lines ++ (decays_in p r now ++ (beats_in p r now ++ EndRound r ∷ []))
+behind_heard p r clock lines = own_lines r lines ++ (decays_in p r clock ++ (beats_in p r clock ++ EndRound r ∷ []))

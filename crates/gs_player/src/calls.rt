@@ -64,20 +64,22 @@ fn follow<K: Retention>(
     }
 }
 
-/// Lowers the counters of scores and has a heartbeat, each if it is due in a round.
+/// Lowers the counters of scores and has a heartbeat, each if it is due in a round. `clock` is how long the peer has been up
+/// at the moment `now` of the run.
 pub fn decay_and_beat<K: Retention>(
     router: &mut Router<K>,
     words: &mut SeededWords,
     round: u64,
     now: Millis,
+    clock: Millis,
 ) -> Result<(), AllocError>
     requires { IsRunning now router.old }
     ensures { OnOk result (Runs (exact seeded_word seeded_after) now
-        (decays_in router.old.peer round now ++ beats_in router.old.peer round now)
+        (decays_in router.old.peer round clock ++ beats_in router.old.peer round clock)
         router.old words.old router.new words.new []) }
 {
-    decay_if_due(router, words, round, now)?;
-    beat_if_due(router, words, round, now)?;
+    decay_if_due(router, words, round, now, clock)?;
+    beat_if_due(router, words, round, now, clock)?;
     Ok(())
 }
 
@@ -87,12 +89,13 @@ fn decay_if_due<K: Retention>(
     words: &mut SeededWords,
     round: u64,
     now: Millis,
+    clock: Millis,
 ) -> Result<(), AllocError>
     requires { IsRunning now router.old }
-    ensures { OnOk result (Runs (exact seeded_word seeded_after) now (decays_in router.old.peer round now)
+    ensures { OnOk result (Runs (exact seeded_word seeded_after) now (decays_in router.old.peer round clock)
         router.old words.old router.new words.new []) }
 {
-    if !is_due(router.decay_ms(), round, now) {
+    if !is_due(router.decay_ms(), round, clock) {
         return Ok(());
     }
     never_refused(router.decay(now, words))?;
@@ -105,26 +108,28 @@ fn beat_if_due<K: Retention>(
     words: &mut SeededWords,
     round: u64,
     now: Millis,
+    clock: Millis,
 ) -> Result<(), AllocError>
     requires { IsRunning now router.old }
-    ensures { OnOk result (Runs (exact seeded_word seeded_after) now (beats_in router.old.peer round now)
+    ensures { OnOk result (Runs (exact seeded_word seeded_after) now (beats_in router.old.peer round clock)
         router.old words.old router.new words.new []) }
 {
-    if !is_due(router.heartbeat_ms(), round, now) {
+    if !is_due(router.heartbeat_ms(), round, clock) {
         return Ok(());
     }
     never_refused(router.heartbeat(now, words))?;
     Ok(())
 }
 
-/// Whether something with this period in milliseconds is due in a round at this moment. Nothing is due in the first round.
-fn is_due(every: u64, round: u64, now: Millis) -> bool
-    ensures { result ≡ is_due every round now }
+/// Whether something with this period in milliseconds is due in a round, where the peer has been up so long. Nothing is due in
+/// the first round.
+fn is_due(every: u64, round: u64, clock: Millis) -> bool
+    ensures { result ≡ is_due every round clock }
 {
     if round == 0 {
         return false;
     }
-    now.0.is_multiple_of(every)
+    clock.0.is_multiple_of(every)
 }
 
 /// Turns the answer of a call that is never refused into one that fails only if memory runs out.

@@ -285,7 +285,7 @@ a_message_keeps_its_promise = refl
 
 -- rounds of 100 milliseconds, and a heartbeat each second
 abbrev seat : Seat
-seat = record { number = record { 0 = 0 }; peer = peer; lines = []; round_ms = 100; rounds = 30 }
+seat = record { number = record { 0 = 0 }; peer = peer; lines = []; round_ms = 100; rounds = 30; phase_ms = 0 }
 
 -- at millisecond 0
 no_heartbeat_in_the_first_round : agenda seat (Playing 0) [] ≡ EndRound 0 ∷ []

@@ -27,7 +27,7 @@ use Rattle.gs_rules.specs.Legal.{Legal, ArePayments, Begins, Opens, Comes}
 use Rattle.gs_rules.specs.Refusals.{refusal}
 use Rattle.gs_rules.specs.Saying.{Said, bytes_of, handled_by, handled}
 use Rattle.gs_rules.specs.Hearing.{Spell, Inbound, IsBetween, ComesIn, bytes_before}
-use Rattle.gs_rules.specs.Rounds.{Seat, Phase, Playing, Closing, Todo, Hear, HearFault, HearGone, Obey, DecayCounters, Beat, EndRound, Stop, agenda, beats_in, decays_in, is_due, ending, hears, hears_of, is_at, is_broken, lines_at, moment_of, unless_refused, opening, Does, ComesAt, Plays, PlaysInPart, AfterRounds, KeepsRounds}
+use Rattle.gs_rules.specs.Rounds.{Seat, Phase, Playing, Closing, Todo, Hear, HearFault, HearGone, Obey, DecayCounters, Beat, EndRound, Stop, agenda, beats_in, decays_in, is_due, ending, hears, hears_of, is_at, is_broken, lines_at, moment_of, unless_refused, opening, Does, ComesAt, Plays, PlaysInPart, AfterRounds, KeepsRounds, clock_of}
 use Rattle.gs_rules.proofs.Owed.{IsOwed, due_is_owed}
 use Rattle.gs_rules.proofs.Legality.{legal_newest}
 use Rattle.gs_rules.proofs.Deliveries.{legal_before}
@@ -233,13 +233,13 @@ beats_quiet q p r at = by (is_due p.params.timing.heartbeat_ms r at)
 phase_hears : (seat : Seat) (phase : Phase) (q : PeerNo) (xs : List Inbound) → flat_map (rpc_of q) (agenda seat phase xs) ≡ flat_map (rpc_of q) (hears (links_of seat.peer) xs)
 phase_hears seat (Playing r) q xs =
     let all : List Todo = hears (links_of seat.peer) xs in
-    let decay : List Todo = decays_in seat.peer r (moment_of seat (Playing r)) in
-    let beat : List Todo = beats_in seat.peer r (moment_of seat (Playing r)) in
+    let decay : List Todo = decays_in seat.peer r (clock_of seat r) in
+    let beat : List Todo = beats_in seat.peer r (clock_of seat r) in
     let last : flat_map (rpc_of q) (beat ++ EndRound r ∷ []) ≡ [] =
-    flat_map-append (rpc_of q) beat (EndRound r ∷ []) ∙ ap (λ (xs : List Rpc). xs ++ []) (beats_quiet q seat.peer r (moment_of seat (Playing r))) in
+    flat_map-append (rpc_of q) beat (EndRound r ∷ []) ∙ ap (λ (xs : List Rpc). xs ++ []) (beats_quiet q seat.peer r (clock_of seat r)) in
     let timed : flat_map (rpc_of q) (decay ++ (beat ++ EndRound r ∷ [])) ≡ [] =
     flat_map-append (rpc_of q) decay (beat ++ EndRound r ∷ [])
-    ∙ ap₂ (λ (xs ys : List Rpc). xs ++ ys) (decays_quiet q seat.peer r (moment_of seat (Playing r))) last in
+    ∙ ap₂ (λ (xs ys : List Rpc). xs ++ ys) (decays_quiet q seat.peer r (clock_of seat r)) last in
     let own : flat_map (rpc_of q) (lines_at seat r ++ (decay ++ (beat ++ EndRound r ∷ []))) ≡ [] =
     flat_map-append (rpc_of q) (lines_at seat r) (decay ++ (beat ++ EndRound r ∷ []))
     ∙ ap₂ (λ (xs ys : List Rpc). xs ++ ys) (lines_quiet q r seat.lines) timed in

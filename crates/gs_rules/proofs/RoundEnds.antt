@@ -12,7 +12,7 @@ use Rattle.gs_rules.specs.Owed.{Debt, nothing, owed, owes, owing}
 use Rattle.gs_rules.specs.Legal.{ArePayments, Comes}
 use Rattle.gs_rules.specs.Saying.{Said}
 use Rattle.gs_rules.specs.Hearing.{Inbound}
-use Rattle.gs_rules.specs.Rounds.{Seat, Playing, Todo, EndRound, Does, Plays, AfterRounds, agenda, beats_in, decays_in, hears, lines_at, moment_of, noted, opening}
+use Rattle.gs_rules.specs.Rounds.{Seat, Playing, Todo, EndRound, Does, Plays, AfterRounds, agenda, beats_in, decays_in, hears, lines_at, moment_of, noted, opening, clock_of}
 use Rattle.gs_rules.proofs.Handled.{GoesOn, does_on}
 
 -- ---- what is done in order
@@ -28,15 +28,15 @@ does_parts p at (x ∷ xs) ys K L refused (N, later, comes, does, is) =
 abbrev work : Seat → ℕ → List Inbound → List Todo
 work seat r xs =
     hears (links_of seat.peer) xs
-    ++ (lines_at seat r ++ (decays_in seat.peer r (moment_of seat (Playing r)) ++ beats_in seat.peer r (moment_of seat (Playing r))))
+    ++ (lines_at seat r ++ (decays_in seat.peer r (clock_of seat r) ++ beats_in seat.peer r (clock_of seat r)))
 
 work_ends : (seat : Seat) (r : ℕ) (xs : List Inbound) → agenda seat (Playing r) xs ≡ work seat r xs ++ EndRound r ∷ []
 work_ends seat r xs =
-    let at : Millis = moment_of seat (Playing r) in
+    let clock : Millis = clock_of seat r in
     let heard : List Todo = hears (links_of seat.peer) xs in
     let lines : List Todo = lines_at seat r in
-    let decays : List Todo = decays_in seat.peer r at in
-    let beats : List Todo = beats_in seat.peer r at in
+    let decays : List Todo = decays_in seat.peer r clock in
+    let beats : List Todo = beats_in seat.peer r clock in
     let last : List Todo = EndRound r ∷ [] in
     sym (append_assoc heard (lines ++ (decays ++ beats)) last ∙ ap (λ (todos : List Todo). heard ++ todos) (append_assoc lines (decays ++ beats) last ∙ ap (λ (todos : List Todo). lines ++ todos) (append_assoc decays beats last)))
 

@@ -17,7 +17,7 @@ use Rattle.gs_rules.specs.Legal.{Comes, Legal}
 use Rattle.gs_rules.specs.Refusals.{refusal}
 use Rattle.gs_rules.specs.Saying.{Said, SaysOnlyFrames, raw_to}
 use Rattle.gs_rules.specs.Hearing.{Inbound}
-use Rattle.gs_rules.specs.Rounds.{AfterRounds, Beat, Closing, DecayCounters, Does, EndRound, Hear, HearFault, HearGone, KeepsRounds, Obey, Phase, Playing, Plays, PutsNoBytes, Seat, Stop, Todo, agenda, beats_in, decays_in, ending, hears, hears_of, is_at, is_broken, is_due, lines_at, moment_of, obey, opening, unless_refused}
+use Rattle.gs_rules.specs.Rounds.{AfterRounds, Beat, Closing, DecayCounters, Does, EndRound, Hear, HearFault, HearGone, KeepsRounds, Obey, Phase, Playing, Plays, PutsNoBytes, Seat, Stop, Todo, agenda, beats_in, decays_in, ending, hears, hears_of, is_at, is_broken, is_due, lines_at, moment_of, obey, opening, unless_refused, clock_of}
 use Rattle.gs_rules.proofs.Each.{each_mapped, each_passing, of_each}
 use Rattle.gs_rules.proofs.Handled.{does_on, legal_then_before, payments_are_owed}
 use Rattle.gs_rules.proofs.Owed.{IsOwed}
@@ -110,17 +110,17 @@ timed_are_quiet q todo false quiet = tt
 
 agenda_is_quiet : (seat : Seat) (phase : Phase) (q : PeerNo) (xs : List Inbound) → PutsNoBytes q seat.lines → AllByRecursion (DoesQuietly q) (agenda seat phase xs)
 agenda_is_quiet seat (Playing r) q xs quiet =
-    let at : Millis = moment_of seat (Playing r) in
-    let decay : List Todo = decays_in seat.peer r at in
-    let beat : List Todo = beats_in seat.peer r at in
+    let clock : Millis = clock_of seat r in
+    let decay : List Todo = decays_in seat.peer r clock in
+    let beat : List Todo = beats_in seat.peer r clock in
     all-append (DoesQuietly q) (hears (links_of seat.peer) xs) (lines_at seat r ++ (decay ++ (beat ++ EndRound r ∷ [])))
     (hears_are_quiet q (links_of seat.peer) xs)
     (all-append (DoesQuietly q) (lines_at seat r) (decay ++ (beat ++ EndRound r ∷ []))
     (lines_are_quiet q r seat.lines quiet)
     (all-append (DoesQuietly q) decay (beat ++ EndRound r ∷ [])
-    (timed_are_quiet q DecayCounters (is_due seat.peer.params.timing.decay_ms r at) tt)
+    (timed_are_quiet q DecayCounters (is_due seat.peer.params.timing.decay_ms r clock) tt)
     (all-append (DoesQuietly q) beat (EndRound r ∷ [])
-    (timed_are_quiet q Beat (is_due seat.peer.params.timing.heartbeat_ms r at) tt) (tt, tt))))
+    (timed_are_quiet q Beat (is_due seat.peer.params.timing.heartbeat_ms r clock) tt) (tt, tt))))
 agenda_is_quiet seat Closing q xs quiet = (tt, hears_are_quiet q (links_of seat.peer) xs)
 
 -- ---- over the rounds

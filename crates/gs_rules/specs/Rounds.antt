@@ -1,5 +1,5 @@
 -- What a peer does, round by round, by what it is given and by what its neighbours say to it.
-use Rattle.std.specs.Prelude.{◌≡◌, ◌≤◌, ℕ, zero, suc, ◌*◌, ◌%◌, Bool, false, true, not, ◌&&◌, ◌||◌, nat_eq, nat_lt, if◌then◌else◌, List, [], ◌∷◌, ◌++◌, length, map, filter, Option, Some, None}
+use Rattle.std.specs.Prelude.{◌≡◌, ◌≤◌, ℕ, zero, suc, ◌+◌, ◌*◌, ◌%◌, Bool, false, true, not, ◌&&◌, ◌||◌, nat_eq, nat_lt, if◌then◌else◌, List, [], ◌∷◌, ◌++◌, length, map, filter, Option, Some, None}
 use Rattle.std.specs.List.{flat_map, zip, AllByRecursion, AllZip}
 use Rattle.gs_base.specs.declared.names.PeerNo.{PeerNo}
 use Rattle.gs_base.specs.declared.names.Millis.{Millis}
@@ -33,6 +33,8 @@ pub record Seat : Type 0 where
   -- the length of a round in milliseconds, and the number of the last one
   pub round_ms : ℕ
   pub rounds : ℕ
+  -- for how many milliseconds it had been up when round 0 began
+  pub phase_ms : ℕ
 
 -- Where a peer is: in a round, or after the last one.
 pub data Phase : Type 0 where
@@ -43,6 +45,10 @@ pub data Phase : Type 0 where
 abbrev pub moment_of : Seat → Phase → Millis
 moment_of seat (Playing r) = record { 0 = r * seat.round_ms }
 moment_of seat Closing = record { 0 = seat.rounds * seat.round_ms }
+
+-- for how long the peer has been up at the moment of a round
+abbrev pub clock_of : Seat → ℕ → Millis
+clock_of seat r = record { 0 = r * seat.round_ms + seat.phase_ms }
 
 -- ---- what there is to do
 
@@ -91,17 +97,17 @@ obey x = Obey x.0 x.1.what
 abbrev pub lines_at : Seat → ℕ → List Todo
 lines_at seat r = map obey (filter (is_at r) seat.lines)
 
--- whether something with this period in milliseconds is due in a round: never in the first one
+-- whether something with this period in milliseconds is due in a round, by how long a peer has been up: never in the first one
 abbrev pub is_due : ℕ → ℕ → Millis → Bool
-is_due every r at = nat_lt 0 r && nat_eq (at.0 % every) 0
+is_due every r clock = nat_lt 0 r && nat_eq (clock.0 % every) 0
 
 -- a step of decay, if one is due
 abbrev pub decays_in : Peer → ℕ → Millis → List Todo
-decays_in p r at = if is_due p.params.timing.decay_ms r at then DecayCounters ∷ [] else []
+decays_in p r clock = if is_due p.params.timing.decay_ms r clock then DecayCounters ∷ [] else []
 
 -- a heartbeat, if one is due
 abbrev pub beats_in : Peer → ℕ → Millis → List Todo
-beats_in p r at = if is_due p.params.timing.heartbeat_ms r at then Beat ∷ [] else []
+beats_in p r clock = if is_due p.params.timing.heartbeat_ms r clock then Beat ∷ [] else []
 
 -- In a round a peer hears what came and follows its lines. It lowers its counters and has a heartbeat, each if it is due,
 -- and ends the round. After the last round it shuts down, and then hears what still comes.
@@ -109,8 +115,8 @@ abbrev pub agenda : Seat → Phase → List Inbound → List Todo
 agenda seat (Playing r) xs =
     hears (links_of seat.peer) xs
     ++ (lines_at seat r
-    ++ (decays_in seat.peer r (moment_of seat (Playing r))
-    ++ (beats_in seat.peer r (moment_of seat (Playing r)) ++ EndRound r ∷ [])))
+    ++ (decays_in seat.peer r (clock_of seat r)
+    ++ (beats_in seat.peer r (clock_of seat r) ++ EndRound r ∷ [])))
 agenda seat Closing xs = Stop ∷ hears (links_of seat.peer) xs
 
 -- ---- how it is done

@@ -1,15 +1,16 @@
 -- The peers, topics, dials, scores, agreements and lines of a plan that is read are in range.
-use Rattle.std.proofs.Common.{◌≡◌, ℕ, ◌≤◌, ◌<◌, nat_eq, Bool, true, false, cond, not, List, [], ◌∷◌, ◌++◌, length, codes, Option, Some, None, Ok, refl, arith}
+use Rattle.std.proofs.Common.{◌≡◌, ℕ, ◌≤◌, ◌<◌, ◌%◌, nat_eq, Bool, true, false, cond, not, List, [], ◌∷◌, ◌++◌, length, codes, Option, Some, None, Ok, refl, arith}
 use Rattle.std.specs.Prelude.{◌||◌, ◌==◌, neg_ℤ, IfOk, IfSome, is_some, option_map, position, find, All, AllPairs}
 use Rattle.std.specs.List.{list_any}
 use Rattle.std.specs.Cmp.Lexicographic.{pointwise}
+use Rattle.std.proofs.Math.Nat.{zero-mod}
 use Rattle.std.proofs.lemmas.List.Elements.{All-nil, All-push}
 use Rattle.std.proofs.lemmas.List.Quantifiers.{all_pairs_push, position-Some}
 use Rattle.toml.specs.Data.{Data, Items}
 use Rattle.gs_base.specs.declared.names.PeerNo.{PeerNo}
 use Rattle.gs_base.specs.declared.names.Topic.{Topic}
 use Rattle.gs_base.specs.Names.{same_peer, same_topic}
-use Rattle.gs_plan.specs.Plans.{IsOneOf, IsAppScore, are_joined, are_of_the_same, are_one_pair, has_topic, highest_app_score, have_one_name, join_the_same, longest_raw, neighbour_of, raw_of, topic_of}
+use Rattle.gs_plan.specs.Plans.{IsOneOf, IsAppScore, are_joined, are_of_the_same, are_one_pair, has_topic, highest_app_score, highest_phase, have_one_name, join_the_same, longest_raw, neighbour_of, raw_of, topic_of}
 use Rattle.gs_params.specs.declared.topic_params.TopicParams.{TopicParams}
 use Rattle.gs_plan.specs.declared.plan.App.{App}
 use Rattle.gs_plan.specs.declared.plan.Dial.{Dial}
@@ -24,10 +25,10 @@ use Rattle.gs_scenario.specs.declared.reason.NameKind.TheVariants as names
 use Rattle.gs_scenario.specs.declared.scenario.tables.TableKind.TheVariants as kinds
 use Rattle.gs_scenario.specs.Refusal.{item_count}
 use Rattle.gs_scenario.specs.Keys.{◌>>=◌, Section, only, read_key, read_each}
-use Rattle.gs_scenario.specs.Kinds.{whole_number, signed_number, name_text, short_hex, reference, new_name, element, table_at}
+use Rattle.gs_scenario.specs.Kinds.{multiple_of, whole_number, signed_number, name_text, short_hex, reference, new_name, element, table_at}
 use Rattle.gs_scenario.specs.TopicParamsOf.{topic_params_in}
-use Rattle.gs_scenario.specs.PlanOf.{from_key, to_key, dial_keys, topic_name_key, topic_keys, peer_name_key, address_key, words_key, peer_keys, peer_key, about_key, value_key, app_keys, explicit_keys, at_key, topic_key, hex_key, link_key, raw_key, topic_named, topic_in, peer_named, peer_in, other_peer, dial_in, neighbour, pair_in, app_in, agreement_in, what_in, verb_in, line_in}
-use Rattle.gs_scenario.proofs.Ranges.{next, past, not_refused, at_required, number_is, signed_is, short_hex_is, reference_is, not_failed, each_is, count_is, none_at, and_also, new_is, no_position, not_found, differ_push, no_pairs, same_bytes}
+use Rattle.gs_scenario.specs.PlanOf.{from_key, to_key, dial_keys, topic_name_key, topic_keys, peer_name_key, address_key, words_key, phase_key, peer_keys, peer_key, about_key, value_key, app_keys, explicit_keys, at_key, topic_key, hex_key, link_key, raw_key, topic_named, topic_in, peer_named, peer_in, other_peer, dial_in, neighbour, pair_in, app_in, agreement_in, what_in, verb_in, line_in}
+use Rattle.gs_scenario.proofs.Ranges.{next, past, not_refused, at_optional, at_required, both_are, multiple_between, number_is, signed_is, short_hex_is, reference_is, not_failed, each_is, count_is, none_at, and_also, new_is, no_position, not_found, differ_push, no_pairs, same_bytes}
 
 -- ---- names
 
@@ -39,7 +40,7 @@ number_below n (Some i) h = h i refl
 named_is : (peers : List PlannedPeer) (text : List ℕ) → IfSome (peer_named peers text) (IsOneOf peers)
 named_is peers text =
     number_below (length peers) (position (λ peer. pointwise nat_eq peer.name text) peers)
-    (λ i e. (position-Some (λ (peer : PlannedPeer). pointwise nat_eq peer.name text) peers i (record { name = []; address = []; words = [] }) e).0)
+    (λ i e. (position-Some (λ (peer : PlannedPeer). pointwise nat_eq peer.name text) peers i (record { name = []; address = []; words = []; phase_ms = 0 }) e).0)
 
 pub peer_is : (peers : List PlannedPeer) (place : List ℕ) (d : Data) → IfOk (reference names.Peer (peer_named peers) place d) (IsOneOf peers)
 peer_is peers = reference_is (IsOneOf peers) names.Peer (peer_named peers) (named_is peers)
@@ -80,25 +81,57 @@ one_peer_more earlier peer new h =
     all_pairs_push (λ x y. have_one_name x y ≡ false) earlier peer h
     (no_position (λ i. let p : PeerNo = record { 0 = i } in p) (λ (x : PlannedPeer). pointwise nat_eq x.name peer.name) earlier new)
 
-name_is : (earlier : List PlannedPeer) (d : Data) → NamesDiffer earlier → IfOk (peer_in earlier d) (λ peer. NamesDiffer (earlier ++ peer ∷ []))
+-- peers with different names, each with a phase that it may have
+pub record PeersAreGiven (round_ms : ℕ) (peers : List PlannedPeer) : Type 0 where
+  pub differ : NamesDiffer peers
+  pub phases : All (λ (peer : PlannedPeer). peer.phase_ms ≤ highest_phase) peers
+  pub take_rounds : All (λ (peer : PlannedPeer). peer.phase_ms % round_ms ≡ 0) peers
+
+abbrev IsPhase : ℕ → ℕ → Type 0
+IsPhase round_ms n = (n ≤ highest_phase) × (n % round_ms ≡ 0)
+
+phase_is : (round_ms : ℕ) (section : Section) → IfOk (read_key section (phase_key round_ms)) (IsPhase round_ms)
+phase_is round_ms section =
+    at_optional (IsPhase round_ms) (phase_key round_ms).name (multiple_of round_ms (whole_number 0 highest_phase)) 0 section
+    (omega arith, zero-mod round_ms) (multiple_between 0 highest_phase round_ms)
+
+one_given_more : (round_ms : ℕ) (earlier : List PlannedPeer) (peer : PlannedPeer) → IsNewName earlier peer.name → IsPhase round_ms peer.phase_ms → PeersAreGiven round_ms earlier → PeersAreGiven round_ms (earlier ++ peer ∷ [])
+one_given_more round_ms earlier peer new phase h = record {
+  differ = one_peer_more earlier peer new h.differ;
+  phases = All-push (λ (x : PlannedPeer). x.phase_ms ≤ highest_phase) earlier peer h.phases phase.0;
+  take_rounds = All-push (λ (x : PlannedPeer). x.phase_ms % round_ms ≡ 0) earlier peer h.take_rounds phase.1;
+}
+
+given_is : (round_ms : ℕ) (earlier : List PlannedPeer) (d : Data) → PeersAreGiven round_ms earlier → IfOk (peer_in round_ms earlier d) (λ peer. PeersAreGiven round_ms (earlier ++ peer ∷ []))
 unfolding peer_in
-name_is earlier d h =
-    let P = λ (peer : PlannedPeer). NamesDiffer (earlier ++ peer ∷ []) in
+given_is round_ms earlier d h =
+    let P = λ (peer : PlannedPeer). PeersAreGiven round_ms (earlier ++ peer ∷ []) in
     past P (table_at (element (codes "peer") (length earlier)) d) _ (λ section.
     past P (only kinds.Peer peer_keys section) _ (λ none.
     next (IsNewName earlier) P (read_key section (peer_name_key earlier)) _ (at_required (IsNewName earlier) (peer_name_key earlier).name (new_name (peer_named earlier)) section (new_name_is earlier)) (λ text new.
     past P (read_key section (address_key text)) _ (λ address.
     past P (read_key section words_key) _ (λ firsts.
-    one_peer_more earlier (record { name = text; address = address; words = firsts }) new h)))))
+    next (IsPhase round_ms) P (read_key section (phase_key round_ms)) _ (phase_is round_ms section) (λ phase in_range.
+    one_given_more round_ms earlier (record { name = text; address = address; words = firsts; phase_ms = phase }) new in_range h))))))
 
--- n peers, with different names
-abbrev pub PeersAre : ℕ → List PlannedPeer → Type 0
-PeersAre n peers = (length peers ≡ n) × NamesDiffer peers
+-- n such peers
+pub record PeersAre (round_ms n : ℕ) (peers : List PlannedPeer) : Type 0 where
+  pub count : length peers ≡ n
+  pub given : PeersAreGiven round_ms peers
 
-pub peers_are : (ds : Items) → IfOk (read_each peer_in [] ds) (PeersAre (item_count ds))
-peers_are ds =
-    and_also (λ peers. length peers ≡ item_count ds) NamesDiffer (read_each peer_in [] ds) (count_is peer_in (item_count ds) [] ds (omega arith))
-    (each_is NamesDiffer peer_in name_is [] ds (no_pairs (λ x y. have_one_name x y ≡ false)))
+none_given : (round_ms : ℕ) → PeersAreGiven round_ms []
+none_given round_ms = record {
+  differ = no_pairs (λ x y. have_one_name x y ≡ false);
+  phases = All-nil _;
+  take_rounds = All-nil _;
+}
+
+pub peers_are : (round_ms : ℕ) (ds : Items) → IfOk (read_each (peer_in round_ms) [] ds) (PeersAre round_ms (item_count ds))
+peers_are round_ms ds =
+    both_are (λ peers. length peers ≡ item_count ds) (PeersAreGiven round_ms) (PeersAre round_ms (item_count ds)) (read_each (peer_in round_ms) [] ds)
+    (λ peers count given. record { count = count; given = given })
+    (count_is (peer_in round_ms) (item_count ds) [] ds (omega arith))
+    (each_is (PeersAreGiven round_ms) (peer_in round_ms) (given_is round_ms) [] ds (none_given round_ms))
 
 abbrev pub TopicsDiffer : List (Topic × TopicParams) → Type 0
 TopicsDiffer topics = AllPairs (λ (x y : Topic × TopicParams). same_topic x.0 y.0 ≡ false) topics

@@ -137,7 +137,7 @@ top_is limits section =
 -- ---- the plan
 
 module _ (limits : Limits) (top : Top) (shared : Shared) (topics : List (Topic × TopicParams)) (peers : List PlannedPeer) (dials : List Dial) (apps : List App) (explicit : List Explicit) (script : List Line) (params : Params) where
-  all_in_range : TopIsInRange limits top → TakeRounds top.round_ms shared.timing → TopicsAre (item_count top.topics) topics → PeersAre (item_count top.peers) peers → DialsAre peers dials → AppsAre peers dials apps → ExplicitAre peers dials explicit → LinesAre topics peers dials top.rounds script → AreChecked (with_topics shared topics) params → IsWithin limits (record { round_ms = top.round_ms; rounds = top.rounds; workers = top.workers; capacity = top.capacity; seed = top.seed; params = params; peers = peers; dials = dials; apps = apps; explicit = explicit; script = script })
+  all_in_range : TopIsInRange limits top → TakeRounds top.round_ms shared.timing → TopicsAre (item_count top.topics) topics → PeersAre top.round_ms (item_count top.peers) peers → DialsAre peers dials → AppsAre peers dials apps → ExplicitAre peers dials explicit → LinesAre topics peers dials top.rounds script → AreChecked (with_topics shared topics) params → IsWithin limits (record { round_ms = top.round_ms; rounds = top.rounds; workers = top.workers; capacity = top.capacity; seed = top.seed; params = params; peers = peers; dials = dials; apps = apps; explicit = explicit; script = script })
   all_in_range t s m n d a e l c = record {
     some_rounds = t.rounds.0;
     rounds = t.rounds.1;
@@ -148,15 +148,17 @@ module _ (limits : Limits) (top : Top) (shared : Shared) (topics : List (Topic �
     some_capacity = t.capacity.0;
     capacity = t.capacity.1;
     seed = t.seed;
-    some_peers = omega (arith, n.0, t.peers.0);
-    peers = omega (arith, n.0, t.peers.1);
+    some_peers = omega (arith, n.count, t.peers.0);
+    peers = omega (arith, n.count, t.peers.1);
     some_topics = subst (λ (p : Params). 1 ≤ length p.topics) c.0 (omega (arith, m.0, t.topics.0));
     topics = subst (λ (p : Params). length p.topics ≤ most_planned_topics) c.0 (omega (arith, m.0, t.topics.1));
-    names_differ = n.1;
+    names_differ = n.given.differ;
     topics_differ = subst (λ (p : Params). TopicsDiffer p.topics) c.0 m.1;
     params = c.1;
     heartbeat = subst (λ (p : Params). p.timing.heartbeat_ms % top.round_ms ≡ 0) c.0 s.0;
     decay = subst (λ (p : Params). p.timing.decay_ms % top.round_ms ≡ 0) c.0 s.1;
+    phases = n.given.phases;
+    phases_take_rounds = n.given.take_rounds;
     dials_from = d.from;
     dials_to = d.to;
     dials_to_others = d.others;
@@ -182,7 +184,7 @@ plan_is limits all =
     next (TopIsInRange limits) P (top_in limits (record { path = []; members = all })) _ (top_is limits (record { path = []; members = all })) (λ top t.
     next (λ shared. TakeRounds top.round_ms shared.timing) P (shared_in top.round_ms (section_at params_key.name top.params)) _ (shared_are top.round_ms (section_at params_key.name top.params)) (λ shared s.
     next (TopicsAre (item_count top.topics)) P (read_each topic_in [] top.topics) _ (topics_are top.topics) (λ topics m.
-    next (PeersAre (item_count top.peers)) P (read_each peer_in [] top.peers) _ (peers_are top.peers) (λ peers n.
+    next (PeersAre top.round_ms (item_count top.peers)) P (read_each (peer_in top.round_ms) [] top.peers) _ (peers_are top.round_ms top.peers) (λ peers n.
     next (DialsAre peers) P (read_each (dial_in peers) [] top.dials) _ (dials_are peers top.dials) (λ dials d.
     next (AppsAre peers dials) P (read_each (app_in peers dials) [] top.apps) _ (apps_are peers dials top.apps) (λ apps a.
     next (ExplicitAre peers dials) P (read_each (agreement_in peers dials) [] top.explicit) _ (explicit_are peers dials top.explicit) (λ explicit e.
@@ -220,6 +222,8 @@ is_in_range Standard plan within = record {
   some_topics = within.some_topics;
   topics = within.topics;
   names_differ = within.names_differ;
+  phases = within.phases;
+  phases_take_rounds = within.phases_take_rounds;
   topics_differ = within.topics_differ;
   params = within.params;
   heartbeat = within.heartbeat;

@@ -14,8 +14,8 @@ use Rattle.gs_params.specs.Params.{int_in_range}
 use Rattle.gs_scenario.specs.declared.fault.ScenarioFault.{ScenarioFault}
 use Rattle.gs_scenario.specs.declared.reason.NameKind.{NameKind}
 use Rattle.gs_scenario.specs.Refusal.{item_count}
-use Rattle.gs_scenario.specs.Keys.{◌>>=◌, or_refuse, refuse_if, Kind, Section, reads_required, required, read_key, read_each}
-use Rattle.gs_scenario.specs.Kinds.{between, whole_number, int_between, signed_number, of_length, list_of, hex_text, short_hex, reference, new_name, name_text, is_multiple, reads_multiple, optional_multiple}
+use Rattle.gs_scenario.specs.Keys.{◌>>=◌, or_refuse, refuse_if, Kind, Section, optional, reads_optional, reads_required, required, read_key, read_each}
+use Rattle.gs_scenario.specs.Kinds.{between, whole_number, int_between, signed_number, of_length, list_of, hex_text, short_hex, reference, new_name, name_text, is_multiple, multiple_of, reads_multiple, optional_multiple}
 
 -- ---- steps
 
@@ -50,6 +50,14 @@ required_of Q kind place (Some d) h = h d
 -- what is read at a key that is required is of its kind
 pub at_required : {A : Type 0} (Q : A → Type 0) (name : List ℕ) (kind : Kind A) (section : Section) → ((place : List ℕ) (d : Data) → IfOk (kind place d) Q) → IfOk (read_key section (required name kind)) Q
 at_required Q name kind section h = required_of Q kind _ _ (λ d. h _ d)
+
+optional_of : {A : Type 0} (Q : A → Type 0) (kind : Kind A) (default : A) (place : List ℕ) (found : Option Data) → Q default → ((d : Data) → IfOk (kind place d) Q) → IfOk (reads_optional kind default place found) Q
+optional_of Q kind default place None given h = given
+optional_of Q kind default place (Some d) given h = h d
+
+-- what is read at a key that may be missing is of its kind, or the default
+pub at_optional : {A : Type 0} (Q : A → Type 0) (name : List ℕ) (kind : Kind A) (default : A) (section : Section) → Q default → ((place : List ℕ) (d : Data) → IfOk (kind place d) Q) → IfOk (read_key section (optional name kind default)) Q
+at_optional Q name kind default section given h = optional_of Q kind default _ _ given (λ d. h _ d)
 
 le : (a b : ℕ) → Decides (nat_le a b) (a ≤ b)
 le a b = (leb-true a b, le-leb a b)
@@ -112,6 +120,12 @@ not_failed false e = search (e)
 passes_step : (step n : ℕ) (fault : ScenarioFault) → IfOk (refuse_if (not (is_multiple step n)) fault n) (λ m. m % step ≡ 0)
 passes_step step n fault = not_refused (λ m. m % step ≡ 0) (not (is_multiple step n)) fault n (λ e. (Decides-eqb (n % step) 0).0 (not_failed (is_multiple step n) e))
 
+pub multiple_between : (low high step : ℕ) (place : List ℕ) (d : Data) → IfOk (multiple_of step (whole_number low high) place d) (λ n. (n ≤ high) × (n % step ≡ 0))
+multiple_between low high step place d =
+    let P = λ (n : ℕ). (n ≤ high) × (n % step ≡ 0) in
+    next (λ n. (low ≤ n) × (n ≤ high)) P (whole_number low high place d) _ (number_is low high place d)
+    (λ n h. not_refused P (not (is_multiple step n)) _ n (λ e. (h.1, (Decides-eqb (n % step) 0).0 (not_failed (is_multiple step n) e))))
+
 read_multiple : (step : ℕ) (kind : Kind ℕ) (default : ℕ) (place : List ℕ) (found : Option Data) → IfOk (reads_multiple step kind default place found) (λ n. n % step ≡ 0)
 read_multiple step kind default place None = passes_step step default _
 read_multiple step kind default place (Some d) = past (λ n. n % step ≡ 0) (kind place d) _ (λ n. passes_step step n _)
@@ -158,6 +172,11 @@ pub no_pairs : {A : Type 0} (R : A → A → Type 0) → AllPairs R []
 no_pairs R i j d below inside = absurd (let e : ⊥ = omega (arith, inside) in e)
 
 -- two facts of one value
+-- what two facts say of what is read, in one
+pub both_are : {A : Type 0} (P Q R : A → Type 0) (r : Result A ScenarioFault) → ((x : A) → P x → Q x → R x) → IfOk r P → IfOk r Q → IfOk r R
+both_are P Q R (Ok x) f h k = f x h k
+both_are P Q R (Err fault) f h k = tt
+
 pub and_also : {A : Type 0} (P Q : A → Type 0) (r : Result A ScenarioFault) → IfOk r P → IfOk r Q → IfOk r (λ x. P x × Q x)
 and_also P Q (Ok x) h k = (h, k)
 and_also P Q (Err fault) h k = tt

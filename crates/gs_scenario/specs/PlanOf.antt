@@ -21,14 +21,14 @@ use Rattle.gs_plan.specs.declared.plan.Explicit.{Explicit}
 use Rattle.gs_plan.specs.declared.plan.Line.{Line}
 use Rattle.gs_plan.specs.declared.plan.Act.{Act}
 use Rattle.gs_plan.specs.declared.plan.Act.TheVariants.{Subscribe, Unsubscribe, Publish, Raw, HangUp}
-use Rattle.gs_plan.specs.Plans.{are_joined, are_of_the_same, are_one_pair, join_the_same, longest_round, most_rounds, most_workers, highest_capacity, most_planned_topics, highest_app_score, longest_raw}
+use Rattle.gs_plan.specs.Plans.{are_joined, are_of_the_same, are_one_pair, highest_app_score, highest_capacity, highest_phase, join_the_same, longest_raw, longest_round, most_planned_topics, most_rounds, most_workers}
 use Rattle.gs_plan.specs.Limits.{most_peers}
 use Rattle.gs_plan.specs.declared.limits.Limits.{Limits}
 use Rattle.gs_plan.specs.declared.limits.Limits.TheVariants.{Standard}
 use Rattle.gs_scenario.specs.declared.scenario.script.Verb.{Verb}
 use Rattle.gs_scenario.specs.declared.scenario.script.Verb.TheVariants as verbs
 use Rattle.gs_scenario.specs.Keys.{Key, Kind, Section, ◌>>=◌, refuse_if, required, optional, read_key, only, read_each}
-use Rattle.gs_scenario.specs.Kinds.{whole_number, signed_number, list_of, any_list, any_table, any_text, words, name_text, hex_text, short_hex, out_of_range, new_name, reference, word, element, section_at, table_at}
+use Rattle.gs_scenario.specs.Kinds.{whole_number, multiple_of, signed_number, list_of, any_list, any_table, any_text, words, name_text, hex_text, short_hex, out_of_range, new_name, reference, word, element, section_at, table_at}
 use Rattle.gs_scenario.specs.ParamsOf.{shared_names, shared_in, params_of}
 use Rattle.gs_scenario.specs.TopicParamsOf.{topic_param_names, topic_params_in}
 
@@ -174,17 +174,22 @@ address_key name = optional (codes "address") any_text name
 abbrev pub words_key : Key (List ℕ)
 words_key = optional (codes "words") words []
 
-abbrev pub peer_keys : List (List ℕ)
-peer_keys = (peer_name_key []).name ∷ (address_key []).name ∷ words_key.name ∷ []
+-- for how many milliseconds a peer had been up when round 0 began; 0 where the key is missing
+abbrev pub phase_key : ℕ → Key ℕ
+phase_key round_ms = optional (codes "phase_ms") (multiple_of round_ms (whole_number 0 highest_phase)) 0
 
-unfoldable pub peer_in : List PlannedPeer → Data → Result PlannedPeer ScenarioFault
-peer_in earlier d = do
+abbrev pub peer_keys : List (List ℕ)
+peer_keys = (peer_name_key []).name ∷ (address_key []).name ∷ words_key.name ∷ (phase_key 1).name ∷ []
+
+unfoldable pub peer_in : ℕ → List PlannedPeer → Data → Result PlannedPeer ScenarioFault
+peer_in round_ms earlier d = do
   section ← table_at (element (codes "peer") (length earlier)) d
   _ ← only kinds.Peer peer_keys section
   text ← read_key section (peer_name_key earlier)
   address ← read_key section (address_key text)
   firsts ← read_key section words_key
-  Ok (record { name = text; address = address; words = firsts })
+  phase ← read_key section (phase_key round_ms)
+  Ok (record { name = text; address = address; words = firsts; phase_ms = phase })
 
 -- ---- a dial
 
@@ -369,7 +374,7 @@ plan_in limits members = do
   top ← top_in limits (record { path = []; members = members })
   shared ← shared_in top.round_ms (section_at params_key.name top.params)
   topics ← read_each topic_in [] top.topics
-  peers ← read_each peer_in [] top.peers
+  peers ← read_each (peer_in top.round_ms) [] top.peers
   dials ← read_each (dial_in peers) [] top.dials
   apps ← read_each (app_in peers dials) [] top.apps
   explicit ← read_each (agreement_in peers dials) [] top.explicit

@@ -78,7 +78,7 @@ fn plan_in(alloc: Global, limits: Limits, table: &Table) -> Result<Plan, Scenari
     let top = Top::read(limits, Section { alloc, path, table })?;
     let shared = shared_of(alloc, top.params, top.round_ms)?;
     let topics = topics_in(alloc, top.topics)?;
-    let peers = peers_in(alloc, top.peers)?;
+    let peers = peers_in(alloc, top.round_ms, top.peers)?;
     let dials = dials_in(alloc, &peers, top.dials)?;
     let apps = apps_in(alloc, &peers, &dials, top.apps)?;
     let explicit = agreements_in(alloc, &peers, &dials, top.explicit)?;

@@ -1,3 +1,4 @@
+pub mod Phases
 pub mod PlaceLists
 pub mod ByNumber
 pub mod Each

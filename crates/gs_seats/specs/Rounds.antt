@@ -45,6 +45,10 @@ address_of plan p = unwrap_or (option_map (λ (planned : PlannedPeer). planned.a
 abbrev pub listed_words : Plan → PeerNo → List ℕ
 listed_words plan p = unwrap_or (option_map (λ (planned : PlannedPeer). planned.words) (slice_get plan.peers p.0)) []
 
+-- for how many milliseconds the peer had been up when round 0 began
+abbrev pub phase_of : Plan → PeerNo → ℕ
+phase_of plan p = unwrap_or (option_map (λ (planned : PlannedPeer). planned.phase_ms) (slice_get plan.peers p.0)) 0
+
 -- the random words of a peer before it has used any
 abbrev pub first_words : Plan → PeerNo → SeededState
 first_words plan p = new_seeded (listed_words plan p) plan.seed p
@@ -98,6 +102,7 @@ seat_in plan p = record {
   lines = lines_in plan p;
   round_ms = plan.round_ms;
   rounds = plan.rounds;
+  phase_ms = phase_of plan p;
 }
 
 -- ---- a run

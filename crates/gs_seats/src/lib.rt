@@ -22,4 +22,4 @@ pub use neighbourhoods::Neighbourhoods;
 pub use neighbours::neighbours_of;
 pub use observer::{Nobody, Observer};
 pub use own::{Concerning, own_of};
-pub use routers::{first_words, router_of};
+pub use routers::{first_words, phase_of, router_of};

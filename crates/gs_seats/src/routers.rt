@@ -1,7 +1,7 @@
 //! The router of a peer before it has done anything, and the random words for its choices.
 ghost use Rattle.std.specs.Prelude.{◌≡◌, IfOk};
 ghost use Rattle.gs_plan.specs.Plans.{IsInRange};
-ghost use Rattle.gs_seats.specs.Rounds.{first_words, listed_words, neighbours_in};
+ghost use Rattle.gs_seats.specs.Rounds.{first_words, listed_words, neighbours_in, phase_of};
 ghost use Rattle.gs_seats.specs.Routers.{new_router};
 
 use gs_base::{Neighbour, PeerNo, clone_of};
@@ -38,6 +38,16 @@ pub fn first_words(alloc: Global, plan: &Plan, number: PeerNo) -> Result<SeededW
 {
     let list = listed_words(alloc, plan, number)?;
     Ok(SeededWords::new(list, plan.seed, number))
+}
+
+/// Returns for how many milliseconds a peer had been up when round 0 began. Of a plan that was read it is at most 10^9.
+pub fn phase_of(plan: &Plan, peer: PeerNo) -> u64
+    ensures { result ≡ phase_of plan.now peer }
+{
+    match plan.peers.as_slice().get(usize::from(peer.0)) {
+        Some(planned) => planned.phase_ms,
+        None => 0,
+    }
 }
 
 /// Returns the random words that the plan lists for a peer.

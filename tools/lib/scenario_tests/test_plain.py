@@ -100,6 +100,16 @@ class Plain(unittest.TestCase):
         pairs = [(it["peer"], it["about"]) for it in scenario["explicit"]]
         self.assertEqual(sorted(pairs), [(f"n{a}", f"n{b}") for a, b in ((1, 2), (2, 1), (2, 3), (3, 2), (3, 4), (4, 3))])
 
+    def test_groups_have_phases(self):
+        text = HEAD + '[[group]]\nprefix = "a"\ncount = 40\nphase = "random"\n[[group]]\nprefix = "b"\nphase = "300 ms"\n[[group]]\nprefix = "c"\n'
+        phases = {it["name"]: it.get("phase_ms") for it in plain(text)["peer"]}
+        self.assertEqual((phases["b"], phases["c"]), (300, None))
+        drawn = [phases[f"a{it:02}"] for it in range(1, 41)]
+        self.assertEqual((drawn, set(drawn) <= set(range(0, 1000, 100))), ([it["phase_ms"] for it in plain(text)["peer"][:40]], True))
+        self.assertGreater(len(set(drawn)), 5)
+        faster = plain(text + "[params]\nheartbeat_ms = 200\n")["peer"][:40]
+        self.assertEqual({it["phase_ms"] for it in faster}, {0, 100})
+
     def test_groups_subscribe_and_leave(self):
         scenario = plain(EVERYTHING)
         self.assertEqual([(it["at"], it["peer"]) for it in lines(scenario, "subscribe")], [(0, f"n{it}") for it in range(1, 5)] + [(10, "m")])

@@ -164,6 +164,14 @@ class Refusals(unittest.TestCase):
         ):
             self.assertTrue(self.said(HEAD + text).endswith(f": {key}\n"), self.said(HEAD + text))
 
+    def test_phases_must_be_whole_rounds(self):
+        for phase, why in (
+            ('"350 ms"', "350 ms is no multiple of round_ms, which is 100"),
+            ('"sometimes"', '"sometimes" is neither "random" nor a time, such as "300 ms"'),
+        ):
+            said = self.said(HEAD + GROUP + f"phase = {phase}\n")
+            self.assertEqual(said.splitlines()[0], f"scenario: it.toml:8: [[group]] 1: phase: {why}")
+
     def test_intervals_must_be_whole_rounds(self):
         why = self.said('until = "7 s"\nround_ms = 1000\nparams_from = "ethereum"\n[[topic]]\nname = "news"\n' + GROUP)
         last = why.splitlines()[-1]

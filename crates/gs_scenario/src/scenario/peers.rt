@@ -33,22 +33,25 @@ const ADDRESS: &str = "address";
 
 const WORDS: &str = "words";
 
+const PHASE_MS: &str = "phase_ms";
+
 /// Returns the keys of a peer's table.
 pub fn keys() -> &'static [&'static str]
     ensures { map (λ key. key.now) result.now ≡ peer_keys }
 {
-    &[NAME, ADDRESS, WORDS]
+    &[NAME, ADDRESS, WORDS, PHASE_MS]
 }
 
-/// Returns the peers of a list, in its order.
+/// Returns the peers of a list, in its order. Each was up for whole rounds of `round_ms` before the first one.
 #[tactic(auto, unfolding(crate::specs::Keys::read_each))]
-pub fn peers_in(alloc: Global, list: &[Value]) -> Result<Peers, ScenarioFault>
-    ensures read { GivesSame result (read_each peer_in [] (items_view list.now)) }
+pub fn peers_in(alloc: Global, round_ms: u64, list: &[Value]) -> Result<Peers, ScenarioFault>
+    requires { 1 ≤ round_ms }
+    ensures read { GivesSame result (read_each (peer_in round_ms) [] (items_view list.now)) }
     ensures count { IfOk result (λ peers. length peers ≡ length list.now) }
 {
     let mut peers = Indexed::new(alloc);
     for value in list {
-        let peer = peer_in(alloc, &peers, value)?;
+        let peer = peer_in(alloc, round_ms, &peers, value)?;
         peers = peers.with(alloc, peer)?;
     }
     Ok(peers)
@@ -56,8 +59,14 @@ pub fn peers_in(alloc: Global, list: &[Value]) -> Result<Peers, ScenarioFault>
 
 /// Returns the peer that stands in the list after the earlier ones.
 #[tactic(auto, unfolding(crate::specs::PlanOf::peer_in))]
-fn peer_in(alloc: Global, earlier: &Peers, value: &Value) -> Result<PlannedPeer, ScenarioFault>
-    ensures { GivesSame result (peer_in earlier.now (view value.now)) }
+fn peer_in(
+    alloc: Global,
+    round_ms: u64,
+    earlier: &Peers,
+    value: &Value,
+) -> Result<PlannedPeer, ScenarioFault>
+    requires { 1 ≤ round_ms }
+    ensures { GivesSame result (peer_in round_ms earlier.now (view value.now)) }
 {
     let element = Element {
         list: "peer",
@@ -72,10 +81,12 @@ fn peer_in(alloc: Global, earlier: &Peers, value: &Value) -> Result<PlannedPeer,
     }
     let address = section.text(ADDRESS, name)?;
     let words = section.words(WORDS)?;
+    let phase_ms = section.phase(PHASE_MS, round_ms)?;
     Ok(PlannedPeer {
         name: Text::from_str(alloc, name)?,
         address: Text::from_str(alloc, address)?,
         words,
+        phase_ms,
     })
 }
 

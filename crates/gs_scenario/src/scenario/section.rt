@@ -2,6 +2,7 @@
 ghost use Rattle.std.specs.Prelude.{◌≡◌, [], ◌++◌, ◌≤◌, IfOk, IfSome, length, option_map, unwrap_or, map};
 ghost use Rattle.toml.specs.Data.{get_member, no_items, no_members};
 ghost use Rattle.toml.specs.View.{view, items_view, table_view};
+ghost use Rattle.gs_plan.specs.Plans.{highest_phase};
 ghost use Rattle.gs_scenario.specs.declared.fault.ScenarioFault.TheVariants.{Missing};
 ghost use Rattle.gs_scenario.specs.Refusal.{Gives, GivesSame};
 ghost use Rattle.gs_scenario.specs.Keys.{required, optional, read_key, only, is_one_of, or_refuse};
@@ -17,6 +18,7 @@ use crate::scenario::place::{Path, Place};
 use crate::scenario::tables::TableKind;
 use bytes::Bytes;
 use gs_base::Seq;
+use gs_plan::HIGHEST_PHASE;
 use std::alloc::Global;
 use toml::{Table, Value};
 
@@ -132,6 +134,18 @@ impl<'a> Section<'a> {
         let place = Place::Key(self.path, key).to_text(self.alloc)?;
         let found = Found::Default(default);
         Err(ScenarioFault::Range(place, found, Wanted::Multiple(step)))
+    }
+
+    /// Returns the milliseconds at a key, which must be a multiple of a step, and 0 where the key is missing.
+    pub fn phase(&self, key: &'a str, step: u64) -> Result<u64, ScenarioFault>
+        requires { 1 ≤ step }
+        ensures { GivesSame result (held_at
+            (optional key.now (kinds.multiple_of step (kinds.whole_number 0 highest_phase)) 0) self.now) }
+    {
+        match self.optional(key) {
+            Some(field) => field.multiple(0, HIGHEST_PHASE, step),
+            None => Ok(0),
+        }
     }
 
     /// Returns the weight of a reward at a key, and the default where the key is missing.

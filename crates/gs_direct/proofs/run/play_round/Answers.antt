@@ -1,9 +1,11 @@
 use Rattle.std.proofs.Common.{rules, ◌≡◌, ◌<◌, ◌*◌, ℕ, suc, length, sym, ap, subst, ◌∙◌, arith}
 use Rattle.gs_seats.specs.ListsByPeer.{list_at}
+use Rattle.gs_seats.specs.Rounds.{peer_no}
 use Rattle.gs_seats.proofs.ByNumber.{as_many}
+use Rattle.gs_seats.proofs.Phases.{clock_fits}
 use Rattle.gs_direct.specs.Letters.{LettersFit}
 use Rattle.gs_direct.specs.Runs.{AreAt, HavePlayed, IsAt}
-use Rattle.gs_direct.proofs.Loops.{all_taken, next_of, next_runs, next_within, none_played, one_played}
+use Rattle.gs_direct.proofs.Loops.{all_taken, next_of, next_runs, next_small, next_within, none_played, one_played}
 use Rattle.gs_direct.proofs.Times.{earlier_round}
 use Rattle.gs_direct.proofs.Turning.{grown, turned}
 use Rattle.gs_direct.proofs.run.play_round.Goals as goal
@@ -28,6 +30,14 @@ play-requires-clause-running g c =
     let below : n < length plan.peers = search rules in
     let next = next_of plan c.args.round c.args.peers.now c.loop-number.peers c.args.post.now.mail.items n c.requires.before below (c.loop-number.invariant.left n (omega arith)) in
     next_runs plan c.args.round c.args.peers.now c.loop-number.peers c.args.post.now.mail.items n next (record { 0 = c.args.round * plan.round_ms }) c.index-peers-from.result c.from.result c.from.ensures (earlier_round c.args.round plan.round_ms)
+
+pub play-requires-clause-small : goal.play-requires-clause-small
+play-requires-clause-small g c =
+    let plan = c.args.plan.now in
+    let n = c.loop-number.number in
+    let below : n < length plan.peers = search rules in
+    let next = next_of plan c.args.round c.args.peers.now c.loop-number.peers c.args.post.now.mail.items n c.requires.before below (c.loop-number.invariant.left n (omega arith)) in
+    next_small plan c.args.round c.args.peers.now c.loop-number.peers c.args.post.now.mail.items n next (record { 0 = c.args.round * plan.round_ms }) c.index-peers-from.result c.from.result c.from.ensures (clock_fits plan (peer_no n) c.args.round c.requires.range c.requires.round)
 
 pub play-requires-clause-fit : goal.play-requires-clause-fit
 play-requires-clause-fit g c =

@@ -10,5 +10,6 @@ returns c = record {
   lines = c.in_ok-of.ensures ∙ c.requires.own;
   round_ms = refl;
   rounds = refl;
+  phase = c.phase_of.ensures;
   worker = ap (λ (n : ℕ). n % c.args.plan.now.workers) c.from.ensures;
 }

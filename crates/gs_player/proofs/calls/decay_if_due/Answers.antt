@@ -13,6 +13,6 @@ returns g c =
     let m = exact seeded_word seeded_after in
     let v = c.args.router.now in
     let now = c.args.now in
-    let due : is_due v.peer.params.timing.decay_ms c.args.round now ≡ true = search rules in
-    subst (λ (todos : List Todo). Runs m now todos v c.args.words.now c.decay.new.self c.decay.new.words []) (sym (one_decay v.peer c.args.round now due))
+    let due : is_due v.peer.params.timing.decay_ms c.args.round c.args.clock ≡ true = search rules in
+    subst (λ (todos : List Todo). Runs m now todos v c.args.words.now c.decay.new.self c.decay.new.words []) (sym (one_decay v.peer c.args.round c.args.clock due))
     (told_runs m now DecayCounters (Some Decay) v c.decay.new.self c.args.words.now c.decay.new.words c.decay.result c.in_ok-never_refused.ensures refl refl c.requires c.decay.ensures)

@@ -1,5 +1,5 @@
 //! Peers with one neighbour, and ends to it.
-ghost use Rattle.std.specs.Prelude.{◌≡◌, ◌≤◌, ◌<◌, ◌*◌, ◌^◌, unsigned_abs, pos, [], ◌∷◌, IfOk, IfSome, true, false};
+ghost use Rattle.std.specs.Prelude.{◌≡◌, ◌≤◌, ◌<◌, ◌+◌, ◌*◌, ◌^◌, unsigned_abs, pos, [], ◌∷◌, IfOk, IfSome, true, false};
 ghost use Rattle.std.specs.List.{All, AllByRecursion};
 ghost use Rattle.gs_base.specs.Names.{peers_of};
 ghost use Rattle.gs_base.specs.declared.names.PeerNo.{PeerNo as PeerNoValue};
@@ -95,6 +95,7 @@ pub fn assignment(
     ensures neighbours { IfOk result (λ assignment. assignment.neighbours ≡ neighbours) }
     ensures rounds { IfOk result (λ assignment. assignment.rounds ≡ rounds) }
     ensures length { IfOk result (λ assignment. assignment.round_ms ≡ 100) }
+    ensures phase { IfOk result (λ assignment. assignment.phase_ms ≡ 0) }
 {
     let lines = Agenda::of(alloc, lines)?;
     Ok(Assignment {
@@ -103,6 +104,7 @@ pub fn assignment(
         lines,
         round_ms: 100,
         rounds,
+        phase_ms: 0,
         worker: 4,
     })
 }
@@ -113,7 +115,7 @@ pub fn task_given<G: Gate, S: Ends>(
     assignment: Assignment,
     surroundings: Surroundings<G, S>,
 ) -> Result<PeerTask<G, S>, AllocError>
-    requires small { assignment.rounds * assignment.round_ms < 2 ^ 64 }
+    requires small { assignment.rounds * assignment.round_ms + assignment.phase_ms < 2 ^ 64 }
     requires ascending { IsAscending assignment.neighbours.items }
     requires known { AllByRecursion (λ q. has (S.joints surroundings.ends) q ≡ true) assignment.neighbours.items }
     requires accepted { (q : PeerNoValue) → S.accepted surroundings.ends q ≡ [] }

@@ -15,6 +15,7 @@ returns g c =
     record {
       number = refl;
       agenda = c.in_ok-agenda.ensures ∙ c.requires.own;
+      phase = c.phase_of.ensures;
       router = c.in_ok-router.ensures;
       words = c.in_ok-words.ensures;
       refused = c.new.ensures.items;

@@ -7,6 +7,6 @@ use Rattle.gs_scenario.proofs.scenario.peers.peers_in.Given as goal
 -- what the rest of the list gives after these peers is what the whole gives
 abbrev pub invariant-loop-value : goal.invariant-loop-value
 invariant-loop-value l = record {
-  read : read_each peer_in l.peers (items_view (drop l.value-index l.list)) ≡ read_each peer_in [] (items_view l.list);
+  read : read_each (peer_in l.round_ms) l.peers (items_view (drop l.value-index l.list)) ≡ read_each (peer_in l.round_ms) [] (items_view l.list);
   count : length l.peers ≡ l.value-index;
 }

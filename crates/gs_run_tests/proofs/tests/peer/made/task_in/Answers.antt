@@ -12,7 +12,7 @@ one_ascends q = λ i j d before within. absurd (omega (arith, before, within))
 pub task_given-requires-clause-small : goal.task_given-requires-clause-small
 task_given-requires-clause-small g c =
     let low : c.args.rounds ≤ 100000 = c.requires.rounds in
-    rw (c.in_ok-given.ensures.rounds, c.in_ok-given.ensures.length) (omega (arith, low))
+    rw (c.in_ok-given.ensures.rounds, c.in_ok-given.ensures.length, c.in_ok-given.ensures.phase) (omega (arith, low))
 
 pub task_given-requires-clause-ascending : goal.task_given-requires-clause-ascending
 task_given-requires-clause-ascending g c =
