@@ -144,6 +144,29 @@ fn a_deficit_counts_from_0_to_a_million(rt: HostRuntime) -> Result<(), AllocErro
     Ok(())
 }
 
+/// Lets counters decay by a step. There may be 2^63 steps.
+fn decay(scores: &mut Scores) {
+    if scores.decays() < 0x8000_0000_0000_0000 {
+        scores.decay();
+    }
+}
+
+/// How often counters have decayed after two steps.
+fn steps_of_decay(alloc: Global) -> Result<u64, AllocError> {
+    let mut scores = scores(alloc)?;
+    decay(&mut scores);
+    decay(&mut scores);
+    let steps = scores.decays();
+    drop(scores);
+    Ok(steps)
+}
+
+#[test]
+fn each_step_of_decay_counts(rt: HostRuntime) -> Result<(), AllocError> {
+    assert_eq!(rt; steps_of_decay(rt.alloc())?, 2);
+    Ok(())
+}
+
 /// The weight of a topic's invalid messages.
 fn weight(rulebook: &Rulebook, name: &'static [u8]) -> i64 {
     rulebook.of(&topic(name)).factors.w4
