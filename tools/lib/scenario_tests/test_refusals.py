@@ -123,7 +123,7 @@ class Refusals(unittest.TestCase):
     def test_keys_and_numbers_are_refused_at_once(self):
         text = HEAD + GROUP + "evry = 3\n[params]\nDlo = 4\nd = 6.0\n[[load]]\npeer = 3\nevry = 4\n"
         said = [
-            'it.toml:8: [[group]] 1: evry: "evry" is not known here; of 13 that are, the nearest are stagger, network and from',
+            'it.toml:8: [[group]] 1: evry: "evry" is not known here; of 14 that are, the nearest are stagger, network and from',
             "it.toml:10: [params]: Dlo: \"Dlo\" is not known here; go-libp2p's Dlo is d_low of [params] here",
             "it.toml:11: [params]: d: 6.0 must be a whole number; write 6",
             'it.toml:14: [[load]] 1: evry: "evry" is not known here; the nearest is every',
